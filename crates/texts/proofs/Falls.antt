@@ -35,8 +35,8 @@ same (l ∷ ls) x h =
 pub followed : (ls : List TraceLine) (x : TraceLine) (ts : List Slot) → x .party < length ts → highest (x .party) ls ≤ x .slot .0 → ((p : ℕ) → getD ts p (slotAt 0) .0 ≡ highest p ls) → (p : ℕ) → getD (set ts (x .party) (x .slot)) p (slotAt 0) .0 ≡ highest p (ls ++ x ∷ [])
 followed ls x ts within rises all p =
     elim (cases-eq p (x .party)) [
-      inl e ↦ subst (λ q. getD (set ts (x .party) (x .slot)) q (slotAt 0) .0 ≡ highest q (ls ++ x ∷ [])) (sym e) (ap (λ s. s .0) (getD-set-same ts (x .party) (x .slot) (slotAt 0) within) ∙ sym (same ls x rises))
-    | inr n ↦ ap (λ s. s .0) (getD-set-other ts (x .party) p (x .slot) (slotAt 0) n) ∙ all p ∙ sym (other p ls x (ne-eqb (x .party) p (λ e. n (sym e))))
+      | inl e ↦ subst (λ q. getD (set ts (x .party) (x .slot)) q (slotAt 0) .0 ≡ highest q (ls ++ x ∷ [])) (sym e) (ap (λ s. s .0) (getD-set-same ts (x .party) (x .slot) (slotAt 0) within) ∙ sym (same ls x rises))
+      | inr n ↦ ap (λ s. s .0) (getD-set-other ts (x .party) p (x .slot) (slotAt 0) n) ∙ all p ∙ sym (other p ls x (ne-eqb (x .party) p (λ e. n (sym e))))
     ]
 
 implied : (b c : Bool) → (b ≡ true → c ≡ true) → cond b c true ≡ true

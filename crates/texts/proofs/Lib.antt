@@ -4,3 +4,6 @@ pub mod Sequences
 pub mod Terms
 pub mod Pushes
 pub mod Falls
+pub mod Rejoins
+pub mod Canonical
+pub mod Whole

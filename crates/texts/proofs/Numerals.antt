@@ -25,7 +25,7 @@ use Rattle.texts.specs.Fields.{isNumeral, numeral}
 own : Numerals (Digits 10) (value 10)
 own = numerals-by-value (Digits 10) tells-digits
 
-tests : Numerals (λ ds. allDigits ds ≡ true) (value 10)
+pub tests : Numerals (λ ds. allDigits ds ≡ true) (value 10)
 tests = numerals-by-value (λ ds. allDigits ds ≡ true) tells-allDigits
 
 -- no zero in front, unless it is alone
@@ -56,8 +56,8 @@ not-a-digit ds i l never =
 bare-test : (ds : List ℕ) → Bare ds → (not (eqb (getD ds 0 0) 48) || leb (length ds) 1) ≡ true
 bare-test ds z =
     elim (cases-bool (eqb (getD ds 0 0) 48)) [
-      inl e ↦ or-right _ _ (le-leb (length ds) 1 (z (eqb-true (getD ds 0 0) 48 e)))
-    | inr e ↦ or-left _ _ (not-from-false _ e)
+      | inl e ↦ or-right _ _ (le-leb (length ds) 1 (z (eqb-true (getD ds 0 0) 48 e)))
+      | inr e ↦ or-left _ _ (not-from-false _ e)
     ]
 
 pub named : (ds : List ℕ) → 0 < length ds → length ds ≤ 10 → Bare ds → Digits 10 ds → Some (value 10 ds) ≡ numeral ds

@@ -6,3 +6,4 @@ pub mod PlanLines
 pub mod Plans
 pub mod Traces
 pub mod TraceRead
+pub mod Writing

@@ -39,6 +39,12 @@ abbrev pub kindOf : List ℕ → Option Kind
 kindOf w =
     cond (sameBytes w (codes "EDF")) (Some Edf) (cond (sameBytes w (codes "SP")) (Some Sp) (cond (sameBytes w (codes "TABLE")) (Some Table) None))
 
+-- how a make is named
+abbrev pub kindName : Kind → List ℕ
+kindName Edf = codes "EDF"
+kindName Sp = codes "SP"
+kindName Table = codes "TABLE"
+
 -- `HOP kind link`, behind its first word: the link is at most 63
 abbrev pub hopNumbers : ℕ → Kind → List ℕ → Result PlanEntry Fault
 hopNumbers n k [] = misfit n

@@ -16,13 +16,13 @@ use std::alloc::AllocError;
 use std::alloc::Global;
 
 /// Ends a line.
-pub const NEWLINE: u8 = b'\n';
+pub(crate) const NEWLINE: u8 = b'\n';
 /// Parts the fields of a line.
-pub const TAB: u8 = b'\t';
+pub(crate) const TAB: u8 = b'\t';
 
 /// The lines of a text, without the last newline; none where the text is above 32,768 bytes or
 /// its last byte is no newline.
-pub fn body(text: &[u8]) -> Option<&[u8]>
+pub(crate) fn body(text: &[u8]) -> Option<&[u8]>
     ensures { λ r. ⌜ mapped now r ≡ bodyOf (now (text .entry)) ⌝ }
 {
     let len = text.len();
@@ -33,7 +33,7 @@ pub fn body(text: &[u8]) -> Option<&[u8]>
 }
 
 /// The first piece of a text that a byte parts, and what stands behind that byte.
-pub fn cut(text: &[u8], mark: u8) -> (&[u8], Option<&[u8]>)
+pub(crate) fn cut(text: &[u8], mark: u8) -> (&[u8], Option<&[u8]>)
     ensures parts { λ r. ⌜ pieces mark (now (text .entry)) ≡ now (r .0) ∷ behind mark (mapped now (r .1)) ⌝ }
     ensures shorter { λ r. ⌜ Cases (r .1) (Unit {0}) (λ rest. length (now rest) < length (now (text .entry))) ⌝ }
 {
@@ -46,14 +46,14 @@ pub fn cut(text: &[u8], mark: u8) -> (&[u8], Option<&[u8]>)
 }
 
 /// Whether a field is this word.
-pub fn is(field: &[u8], word: &[u8]) -> bool
+pub(crate) fn is(field: &[u8], word: &[u8]) -> bool
     ensures { λ r. ⌜ r ≡ sameBytes (now (field .entry)) (now (word .entry)) ⌝ }
 {
     field == word
 }
 
 /// The number that a field writes, if it writes one.
-pub fn number(field: &[u8]) -> Option<u64>
+pub(crate) fn number(field: &[u8]) -> Option<u64>
     ensures value { λ r. ⌜ r ≡ numeral (now (field .entry)) ⌝ }
     ensures written { λ r. ⌜ Cases r (Unit {0}) (λ n. (now (field .entry) ≡ decimal n) × (n < 10 ^ 10)) ⌝ }
 {
@@ -75,7 +75,7 @@ pub fn number(field: &[u8]) -> Option<u64>
 }
 
 /// The numbers that fields write, one tab between each two, where each field writes one.
-pub fn numbers(heap: Global, fields: Option<&[u8]>) -> Result<Option<Vec<u64>>, AllocError>
+pub(crate) fn numbers(heap: Global, fields: Option<&[u8]>) -> Result<Option<Vec<u64>>, AllocError>
     ensures { λ r. ⌜ made r (λ v. mapped vec-items v ≡ numbersOf (behind 9 (mapped now (fields .entry)))) ⌝ }
 {
     let mut all = Vec::new(heap);

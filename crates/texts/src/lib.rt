@@ -1,9 +1,10 @@
 //! Plans and traces: the text forms, and readers that answer for every text exactly what the
 //! forms define.
 
-pub mod fields;
+mod fields;
 pub mod forms;
-pub mod plan_lines;
+pub mod kinds;
+mod plan_lines;
 pub mod plans;
 pub mod read_plan;
 pub mod read_trace;

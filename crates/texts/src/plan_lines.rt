@@ -17,10 +17,10 @@ use crate::fields::numbers;
 use crate::forms::Kind;
 use crate::forms::LINK_MAX;
 use crate::forms::PARTY_MAX;
-use crate::forms::TERM_MAX;
 use crate::forms::PlanEntry;
 use crate::forms::PlanHop;
 use crate::forms::PlanParty;
+use crate::forms::TERM_MAX;
 use crate::refusals::Refusal;
 use crate::refusals::RefusalFromAlloc;
 use cells::faults::Cause;
@@ -120,7 +120,12 @@ fn party_of(all: &[u64], hops: usize, line: u32) -> Result<PlanEntry, Refusal>
 }
 
 /// What a line says, in a plan of so many hops.
-pub(crate) fn plan_line(heap: Global, hops: usize, line: u32, text: &[u8]) -> Result<PlanEntry, Refusal>
+pub(crate) fn plan_line(
+    heap: Global,
+    hops: usize,
+    line: u32,
+    text: &[u8],
+) -> Result<PlanEntry, Refusal>
     requires { ⌜ hops ≤ 8 ⌝ }
     ensures told { λ r. ⌜ Told (planLine line hops (pieces 9 (now (text .entry)))) r ⌝ }
     ensures sound { λ r. ⌜ made r (λ e. ranged e ≡ true) ⌝ }

@@ -2,10 +2,13 @@
 
 ghost use mathlib.Core.Bool.{true};
 ghost use mathlib.Core.Path.{_≡_};
-ghost use Rattle.std.specs.Of.Vec.{vec-items};
+ghost use Prim.Native.Nat.{_≤_};
+ghost use lib.ListN.{length};
+ghost use Rattle.std.specs.Vec.{made};
 ghost use Rattle.texts.specs.Lines.{ToldBy};
-ghost use Rattle.texts.specs.Parties.{listed, ranged};
+ghost use Rattle.texts.specs.Parties.{listed, apart, fewSlots, knownParties, ranged};
 ghost use Rattle.texts.specs.Plans.{layoutOf, draftOf, blank, addedLine, planStep, planEnd, planOf};
+ghost use Rattle.texts.specs.Writing.{planWritten};
 use crate::fields::NEWLINE;
 use crate::fields::body;
 use crate::fields::cut;
@@ -24,14 +27,19 @@ use std::alloc::Global;
 impl Plan {
     /// The hops, in the order of their lines.
     pub fn hops(&self) -> &[PlanHop]
-        ensures { λ r. ⌜ now r ≡ layoutOf (now (self .entry)) .hops ⌝ }
+        ensures value { λ r. ⌜ now r ≡ layoutOf (now (self .entry)) .hops ⌝ }
+        ensures bound { λ r. ⌜ (1 ≤ length (now r)) × (length (now r) ≤ 8) ⌝ }
+        ensures short { λ r. ⌜ fewSlots (now r) ≡ true ⌝ }
     {
         self.hops.as_slice()
     }
 
     /// The parties, in the order of their lines.
     pub fn parties(&self) -> &[PlanParty]
-        ensures { λ r. ⌜ now r ≡ layoutOf (now (self .entry)) .parties ⌝ }
+        ensures value { λ r. ⌜ now r ≡ layoutOf (now (self .entry)) .parties ⌝ }
+        ensures bound { λ r. ⌜ (1 ≤ length (now r)) × (length (now r) ≤ 16) ⌝ }
+        ensures once { λ r. ⌜ apart (now r) ≡ true ⌝ }
+        ensures known { λ r. ⌜ knownParties (now r) ≡ true ⌝ }
     {
         self.parties.as_slice()
     }
@@ -113,8 +121,17 @@ impl Draft {
     }
 }
 
-/// Reads a plan: what its text says, or its first fault.
+/// Reads a plan: what its text says, or its first fault. The text of a plan that was read is the
+/// one way to write it.
 pub fn read_plan(heap: Global, text: &[u8]) -> Result<Plan, Refusal>
+    ensures told { λ r. ⌜ ToldBy layoutOf (planOf (now (text .entry))) r ⌝ }
+    ensures written { λ r. ⌜ made r (λ p. planWritten (layoutOf p) ≡ now (text .entry)) ⌝ }
+{
+    plan_of(heap, text)
+}
+
+/// Reads a plan line by line.
+fn plan_of(heap: Global, text: &[u8]) -> Result<Plan, Refusal>
     ensures { λ r. ⌜ ToldBy layoutOf (planOf (now (text .entry))) r ⌝ }
 {
     let Some(lines) = body(text) else {

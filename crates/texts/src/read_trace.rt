@@ -6,11 +6,13 @@ ghost use mathlib.Core.Path.{_≡_};
 ghost use Prim.Native.Nat.{_≤_};
 ghost use Rattle.std.specs.Of.Vec.{vec-items};
 ghost use Rattle.std.specs.Vec.{made, refused};
+ghost use Rattle.texts.specs.Every.{every};
 ghost use Rattle.texts.specs.Fields.{pieces, numbersOf};
 ghost use Rattle.texts.specs.Lines.{Told, ToldBy};
 ghost use Rattle.texts.specs.Plans.{layoutOf};
-ghost use Rattle.texts.specs.Traces.{traceNumbers, traceFields, lineRanged, highest, addedTo, traceStep, traceOf};
+ghost use Rattle.texts.specs.Traces.{traceNumbers, traceFields, lineRanged, neverFalls, highest, addedTo, traceStep, traceOf};
 ghost use Rattle.texts.specs.declared.refusals.Refusal.the-variants.{NoMemory};
+ghost use Rattle.texts.specs.Writing.{traceWritten};
 ghost use Rattle.texts.specs.TraceRead.{traceLines};
 use crate::fields::NEWLINE;
 use crate::fields::body;
@@ -35,7 +37,9 @@ use std::alloc::Global;
 impl Trace {
     /// The lines, in order.
     pub fn lines(&self) -> &[TraceLine]
-        ensures { λ r. ⌜ now r ≡ traceLines (now (self .entry)) ⌝ }
+        ensures value { λ r. ⌜ now r ≡ traceLines (now (self .entry)) ⌝ }
+        ensures ranged { λ r. ⌜ every lineRanged (now r) ≡ true ⌝ }
+        ensures order { λ r. ⌜ neverFalls (now r) ≡ true ⌝ }
     {
         self.lines.as_slice()
     }
@@ -97,7 +101,13 @@ impl Follow {
     }
 
     /// One line more, with its number.
-    fn take_line(&mut self, heap: Global, plan: &Plan, line: u32, text: &[u8]) -> Result<(), Refusal>
+    fn take_line(
+        &mut self,
+        heap: Global,
+        plan: &Plan,
+        line: u32,
+        text: &[u8],
+    ) -> Result<(), Refusal>
         ensures { λ r. ⌜ ToldBy (λ _. vec-items (now (self .exit) .lines)) (traceStep (layoutOf (now (plan .entry)) .parties) line (vec-items (now (self .entry) .lines)) (now (text .entry))) r ⌝ }
     {
         let entry = trace_line(heap, line, text)?;
@@ -117,7 +127,16 @@ impl Follow {
 }
 
 /// Reads a trace under a plan: what its text says, or its first fault. An empty text is a trace.
+/// The text of a trace that was read is the one way to write it.
 pub fn read_trace(heap: Global, plan: &Plan, text: &[u8]) -> Result<Trace, Refusal>
+    ensures told { λ r. ⌜ ToldBy traceLines (traceOf (layoutOf (now (plan .entry)) .parties) (now (text .entry))) r ⌝ }
+    ensures written { λ r. ⌜ made r (λ t. traceWritten (traceLines t) ≡ now (text .entry)) ⌝ }
+{
+    trace_of(heap, plan, text)
+}
+
+/// Reads a trace line by line.
+fn trace_of(heap: Global, plan: &Plan, text: &[u8]) -> Result<Trace, Refusal>
     ensures { λ r. ⌜ ToldBy traceLines (traceOf (layoutOf (now (plan .entry)) .parties) (now (text .entry))) r ⌝ }
 {
     let mut follow = Follow::new(heap);

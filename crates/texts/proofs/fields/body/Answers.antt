@@ -17,9 +17,9 @@ pub returns-then-len-eq0 : need.returns-then-len-eq0
 returns-then-len-eq0 c =
     let bs = c .args .text .now in
     let not-fit : fitText bs ≡ false = elim (c .then-len-eq0 .came) [
-      then-len-eq0·by·then-len-eq0 w ↦ and-right (leb (length bs) 32768) _ (ap (λ b. eqb b 10) (getD-past bs (length bs - 1) 0 (omega arith)))
-    | then-len-eq0·by·else-len-eq0·then-len-gt-TEXT-MAX w ↦ and-left (leb (length bs) 32768) _ (lt-leb (length bs) 32768 (w .if-len-gt-TEXT-MAX .taken))
-    | then-len-eq0·by·else-len-eq0·else-len-gt-TEXT-MAX·then-text-len-ne-NEWLINE w ↦ and-right (leb (length bs) 32768) _ (ne-eqb _ 10 (w .if-text-len-ne-NEWLINE .taken))
+      | then-len-eq0·by·then-len-eq0 w ↦ and-right (leb (length bs) 32768) _ (ap (λ b. eqb b 10) (getD-past bs (length bs - 1) 0 (omega arith)))
+      | then-len-eq0·by·else-len-eq0·then-len-gt-TEXT-MAX w ↦ and-left (leb (length bs) 32768) _ (lt-leb (length bs) 32768 (w .if-len-gt-TEXT-MAX .taken))
+      | then-len-eq0·by·else-len-eq0·else-len-gt-TEXT-MAX·then-text-len-ne-NEWLINE w ↦ and-right (leb (length bs) 32768) _ (ne-eqb _ 10 (w .if-text-len-ne-NEWLINE .taken))
     ] in
     sym (cond-false (fitText bs) _ _ not-fit)
 

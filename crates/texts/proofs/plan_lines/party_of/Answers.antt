@@ -18,9 +18,9 @@ returns-then-number-gt-PARTY-MAX c =
     let xs = c .args .all .now in
     let two : 2 ≤ length xs = search needs in
     let high : (leb (getD xs 0 0) 15 && (leb (getD xs 1 0) 65535 && terms (boundsOf xs))) ≡ false = elim (c .then-number-gt-PARTY-MAX .came) [
-      then-number-gt-PARTY-MAX·by·then-number-gt-PARTY-MAX w ↦ and-left _ _ (lt-leb (getD xs 0 0) 15 (w .if-number-gt-PARTY-MAX .taken))
-    | then-number-gt-PARTY-MAX·by·else-number-gt-PARTY-MAX·then-spacing-gt-TERM-MAX w ↦ and-right (leb (getD xs 0 0) 15) _ (and-left _ _ (lt-leb (getD xs 1 0) 65535 (w .if-spacing-gt-TERM-MAX .taken)))
-    | then-number-gt-PARTY-MAX·by·else-number-gt-PARTY-MAX·else-spacing-gt-TERM-MAX·then-not-all-terms w ↦ and-right (leb (getD xs 0 0) 15) _ (and-right (leb (getD xs 1 0) 65535) _ (sym (w .all-terms .ensures) ∙ w .if-not-all-terms .taken))
+      | then-number-gt-PARTY-MAX·by·then-number-gt-PARTY-MAX w ↦ and-left _ _ (lt-leb (getD xs 0 0) 15 (w .if-number-gt-PARTY-MAX .taken))
+      | then-number-gt-PARTY-MAX·by·else-number-gt-PARTY-MAX·then-spacing-gt-TERM-MAX w ↦ and-right (leb (getD xs 0 0) 15) _ (and-left _ _ (lt-leb (getD xs 1 0) 65535 (w .if-spacing-gt-TERM-MAX .taken)))
+      | then-number-gt-PARTY-MAX·by·else-number-gt-PARTY-MAX·else-spacing-gt-TERM-MAX·then-not-all-terms w ↦ and-right (leb (getD xs 0 0) 15) _ (and-right (leb (getD xs 1 0) 65535) _ (sym (w .all-terms .ensures) ∙ w .if-not-all-terms .taken))
     ] in
     let e = party-refused (c .args .line) (c .args .hops) xs two (c .if-bounds-hops .left) high in
     let t : Told (partyNumbers (c .args .line) (c .args .hops) xs) (Err (c .in-plan-then-number-gt-PARTY-MAX .result)) = search needs in

@@ -24,5 +24,5 @@ ghost-self-2 c =
     let order = subst (λ xs. neverFalls xs ≡ true) (sym more) (never-falls-push ls x (s .order) (c .pre .rises)) in
     let whole = length-set (s .reached) (c .from .result) (x .slot) ∙ s .whole in
     let follows : (p : ℕ) → getD (set (s .reached) (c .from .result) (x .slot)) p (slotAt 0) .0 ≡ highest p (vec-items (c .push .last .self)) = λ p.
-        ap (λ k. getD (set (s .reached) k (x .slot)) p (slotAt 0) .0) (c .from .ensures) ∙ followed ls x (s .reached) here (c .pre .rises) (s .follows) p ∙ ap (highest p) (sym more) in
+    ap (λ k. getD (set (s .reached) k (x .slot)) p (slotAt 0) .0) (c .from .ensures) ∙ followed ls x (s .reached) here (c .pre .rises) (s .follows) p ∙ ap (highest p) (sym more) in
     (ranged, (order, (whole, (follows, tt))))
