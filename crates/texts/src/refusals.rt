@@ -33,11 +33,18 @@ impl Refusal {
     }
 }
 
+/// There was no memory.
+fn no_memory() -> Refusal
+    ensures { λ r. ⌜ r ≡ NoMemory ⌝ }
+{
+    Refusal::NoMemory
+}
+
 pub impl From<AllocError> for Refusal as RefusalFromAlloc {
     ghost converts = { λ _ r. r ≡ NoMemory };
 
     fn from(_e: AllocError) -> Refusal {
-        Refusal::NoMemory
+        no_memory()
     }
 }
 
@@ -45,6 +52,6 @@ pub impl<T: Drop> From<Refused<T>> for Refusal as RefusalFromRefused {
     ghost converts = { λ _ r. r ≡ NoMemory };
 
     fn from(_e: Refused<T>) -> Refusal {
-        Refusal::NoMemory
+        no_memory()
     }
 }
