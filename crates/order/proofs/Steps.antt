@@ -9,18 +9,18 @@ use lib.ListN.{length, getD}
 use Rattle.std.proofs.shelf.Lists.{getD-default}
 use Rattle.order.specs.First.{First}
 
-split : (k n : ℕ) → k < n + 1 → (k < n) ⊎ (k ≡ n)
+pub split : (k n : ℕ) → k < n + 1 → (k < n) ⊎ (k ≡ n)
 split k n h = grind arith
 
-clash : {b : Bool} → b ≡ true → b ≡ false → ⊥
+pub clash : {b : Bool} → b ≡ true → b ≡ false → ⊥
 clash p q = let z : _≡_ {A = ℕ} 0 1 = cc in omega arith
 
-decide : (v : Bool) → (v ≡ true) ⊎ (v ≡ false)
+pub decide : (v : Bool) → (v ≡ true) ⊎ (v ≡ false)
 decide true = inl refl
 decide false = inr refl
 
 module _ {X : Type 0} (b : X → X → Bool) (asym : (x y : X) → b x y ≡ true → b y x ≡ false) (weak : (x y z : X) → b x y ≡ false → b y z ≡ false → b x z ≡ false) where
-  self : (x : X) → b x x ≡ false
+  pub self : (x : X) → b x x ≡ false
   self x = elim (decide (b x x)) [ inl t ↦ asym x x t | inr f ↦ f ]
 
   -- what comes before the first so far comes before each that does not
