@@ -15,6 +15,19 @@ use Rattle.order.proofs.Steps.{clash, decide, self}
 order-of : (i j : ℕ) → (i < j) ⊎ ((j < i) ⊎ (i ≡ j))
 order-of i j = grind arith
 
+-- the first of a list stands in it
+sooner-at : {X : Type 0} (b : X → X → Bool) (y : X) (ys : List X) (d x : X) (o : Option X) → ((z : X) → o ≡ Some z → (i : ℕ) × (i < length ys) × (getD ys i d ≡ z)) → sooner b y o ≡ x → (i : ℕ) × (i < length (y ∷ ys)) × (getD (y ∷ ys) i d ≡ x)
+sooner-at b y ys d x None h e = (0, omega arith, e)
+sooner-at {X} b y ys d x (Some z) h e = pick (b z y) e (h z refl)
+  where
+    pick : (v : Bool) → cond v z y ≡ x → (i : ℕ) × (i < length ys) × (getD ys i d ≡ z) → (i : ℕ) × (i < length (y ∷ ys)) × (getD (y ∷ ys) i d ≡ x)
+    pick true k (i, l, q) = (suc i, omega arith, q ∙ k)
+    pick false k (i, l, q) = (0, omega arith, k)
+
+pub foremost-at : {X : Type 0} (b : X → X → Bool) (xs : List X) (d x : X) → foremost b xs ≡ Some x → (i : ℕ) × (i < length xs) × (getD xs i d ≡ x)
+foremost-at b [] d x e = absurd (let z : _≡_ {A = ℕ} 0 1 = cc in omega arith)
+foremost-at b (y ∷ ys) d x e = let k : sooner b y (foremost b ys) ≡ x = cc in sooner-at b y ys d x (foremost b ys) (foremost-at b ys d) k
+
 module _ {X : Type 0} (b : X → X → Bool) (asym : (x y : X) → b x y ≡ true → b y x ≡ false) (weak : (x y z : X) → b x y ≡ false → b y z ≡ false → b x z ≡ false) where
   -- there is one such place
   pub first-one : (xs : List X) (n i j : ℕ) (d : X) → First b xs n i → First b xs n j → i ≡ j

@@ -1,0 +1,113 @@
+//! What is done with held cells.
+
+ghost use mathlib.Core.Path.{_≡_};
+ghost use mathlib.Core.Bool.{cond};
+ghost use mathlib.Core.List.{List, [], _∷_, _++_};
+ghost use Prim.Native.Nat.{ℕ, _+_, _-_, _<_, _≤_};
+ghost use lib.Dec.{ltb, eqb};
+ghost use lib.ListN.{length, getD, set};
+ghost use Rattle.std.specs.declared.option.Option.the-variants.{Some};
+ghost use Rattle.order.specs.First.{foremost};
+ghost use Rattle.backlog.specs.Backlogs.{cells-of};
+ghost use Rattle.backlog.specs.Cells.{due-of, holds-in, Taken};
+use crate::held::Held;
+use crate::places::Backlog;
+use cells::times::Slot;
+use cells::times::SlotAddSpan;
+use cells::times::Span;
+use order::Order;
+use order::first;
+use scheduler::terms::Cell;
+
+/// How many cells a backlog has room for.
+const ROOM: usize = 128;
+
+impl Held {
+    /// The slot in which it is due, the last in which it may be sent.
+    pub fn due(&self) -> Slot
+        ensures { λ r. ⌜ r .0 ≡ due-of (now (self .entry)) ⌝ }
+    {
+        self.cell.eligible + Span(self.bound.0 - 1)
+    }
+}
+
+impl Backlog {
+    /// With no cell.
+    pub fn new() -> Backlog
+        ensures { λ r. ⌜ cells-of r ≡ [] ⌝ }
+    {
+        let blank = Held {
+            cell: Cell {
+                party: 0,
+                label: 0,
+                eligible: Slot(0),
+            },
+            bound: Span(1),
+        };
+        Backlog {
+            places: [blank; 128],
+            count: 0,
+        }
+    }
+
+    /// How many cells are held.
+    pub fn len(&self) -> usize
+        ensures { λ r. ⌜ r ≡ length (cells-of (now (self .entry))) ⌝ }
+    {
+        self.count
+    }
+
+    /// Whether no cell is held.
+    pub fn is_empty(&self) -> bool
+        ensures { λ r. ⌜ r ≡ eqb (length (cells-of (now (self .entry)))) 0 ⌝ }
+    {
+        self.count == 0
+    }
+
+    /// Whether a cell of the party is held.
+    pub fn holds(&self, party: u8) -> bool
+        ensures { λ r. ⌜ r ≡ holds-in (cells-of (now (self .entry))) party ⌝ }
+    {
+        for held in &self.places[0..self.count] {
+            if held.cell.party == party {
+                return true;
+            }
+        }
+        false
+    }
+
+    /// Holds a cell, and answers whether there was room.
+    pub fn push(&mut self, held: Held) -> bool
+        ensures answer { λ r. ⌜ r ≡ ltb (length (cells-of (now (self .entry)))) 128 ⌝ }
+        ensures becomes { λ _. ⌜ cells-of (now (self .exit)) ≡ cond (ltb (length (cells-of (now (self .entry)))) 128) (cells-of (now (self .entry)) ++ held ∷ []) (cells-of (now (self .entry))) ⌝ }
+    {
+        if self.count >= ROOM {
+            return false;
+        }
+        self.places[self.count] = held;
+        self.count += 1;
+        true
+    }
+
+    /// Takes the first cell in the order out, and puts the cell at the last place into its place.
+    pub fn take_first<O: Order<Held>>(&mut self, order: &O) -> Option<Held>
+        ensures answer { λ r. ⌜ r ≡ foremost (ahead (now (order .entry))) (cells-of (now (self .entry))) ⌝ }
+        ensures becomes { λ r. ⌜ Taken (cells-of (now (self .entry))) r (cells-of (now (self .exit))) ⌝ }
+    {
+        let place = first(order, &self.places[0..self.count])?;
+        Some(self.swap_remove(place))
+    }
+
+    // Takes the cell at a place out, and puts the cell at the last place into its place.
+    fn swap_remove(&mut self, place: usize) -> Held
+        requires { ⌜ place < now self .count ⌝ }
+        ensures answer { λ r. ⌜ r ≡ getD (cells-of (now (self .entry))) place r ⌝ }
+        ensures becomes { λ r. ⌜ Taken (cells-of (now (self .entry))) (Some r) (cells-of (now (self .exit))) ⌝ }
+    {
+        let held = self.places[place];
+        let last = self.places[self.count - 1];
+        self.places[place] = last;
+        self.count -= 1;
+        held
+    }
+}
