@@ -12,7 +12,7 @@ use Rattle.std.specs.Options.{isSome}
 use Rattle.std.specs.declared.option.Option.{Option}
 use Rattle.std.specs.declared.option.Option.the-variants.{Some, None}
 use Rattle.std.specs.shelf.Lists.{sumBy}
-use Rattle.std.proofs.shelf.Sums.{sumBy-cons, getD-le-sumBy}
+use Rattle.std.proofs.shelf.Sums.{sumBy-cons, sumBy-push, getD-le-sumBy}
 use Rattle.std.proofs.shelf.Tests.{eq-eqb, eqb-true, both-ways, lt-ltb}
 use Rattle.order.specs.First.{foremost}
 use Rattle.order.proofs.Foremost.{foremost-at}
@@ -58,6 +58,13 @@ pub held-push : (xs : List Held) (x : Held) → held-in xs (x .cell .party) (x .
 held-push xs x h =
     fun-ext (λ p. fun-ext (λ e. push-at xs x p e (λ t. let q = is-parts p e x t in ap (λ k. held-in xs k e) (q .0) ∙ ap (held-in xs (x .cell .party)) (q .1) ∙ h)))
     ∙ spread (held-in xs) x (Some (x .cell .label))
+
+-- what a push leaves, where there is room: the list, and a sum over it
+pub pushed : (xs ys : List Held) (x : Held) → ys ≡ cond (ltb (length xs) 128) (xs ++ x ∷ []) xs → length xs < 128 → ys ≡ xs ++ x ∷ []
+pushed xs ys x e h = e ∙ ap (λ b. cond b (xs ++ x ∷ []) xs) (lt-ltb (length xs) 128 h)
+
+pub sum-pushed : (f : Held → ℕ) (xs ys : List Held) (x : Held) → ys ≡ cond (ltb (length xs) 128) (xs ++ x ∷ []) xs → length xs < 128 → sumBy f ys ≡ sumBy f xs + f x
+sum-pushed f xs ys x e h = ap (sumBy f) (pushed xs ys x e h) ∙ sumBy-push f xs x
 
 -- the cell of a party and eligible slot as a number: 0 for none, else 1 more than the label
 abbrev mark : ℕ → ℕ → Held → ℕ
@@ -106,6 +113,18 @@ held-mark p e (x ∷ xs) h = way (is-cell p e x) refl (held-mark p e xs)
 -- none of a party and eligible slot is held
 pub held-none : (p e : ℕ) (xs : List Held) → sumBy (at p e) xs ≡ 0 → held-in xs p e ≡ None
 held-none p e xs h = held-mark p e xs (omega arith) ∙ ap read (no-mark p e xs h)
+
+-- the same of what it holds: a cell of party p, eligible in slot e, of which there was none
+pub held-pushed : (xs ys : List Held) (x : Held) → ys ≡ cond (ltb (length xs) 128) (xs ++ x ∷ []) xs → length xs < 128
+    → (p e l : ℕ) → x .cell .party ≡ p → x .cell .eligible .0 ≡ e → x .cell .label ≡ l → sumBy (at p e) xs ≡ 0
+    → held-in ys ≡ updated (held-in xs) p (updated (held-in xs p) e (Some l))
+held-pushed xs ys x is room p e l a b c none =
+    let free : held-in xs (x .cell .party) (x .cell .eligible .0) ≡ None = ap (λ q. held-in xs q (x .cell .eligible .0)) a ∙ ap (held-in xs p) b ∙ held-none p e xs none in
+    ap held-in (pushed xs ys x is room)
+    ∙ held-push xs x free
+    ∙ ap (λ q. updated (held-in xs) q (updated (held-in xs q) (x .cell .eligible .0) (Some (x .cell .label)))) a
+    ∙ ap (λ q. updated (held-in xs) p (updated (held-in xs p) q (Some (x .cell .label)))) b
+    ∙ ap (λ q. updated (held-in xs) p (updated (held-in xs p) e (Some q))) c
 
 -- what is taken leaves no two of one party and eligible slot either
 pub single-taken : (xs ys : List Held) (x : Held) → Single xs → Taken xs (Some x) ys → Single ys

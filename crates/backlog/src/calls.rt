@@ -1,19 +1,18 @@
-//! What is done with held cells.
+//! How cells come and go.
 
 ghost use mathlib.Core.Path.{_≡_};
 ghost use mathlib.Core.Bool.{cond};
-ghost use mathlib.Core.List.{List, [], _∷_, _++_};
-ghost use Prim.Native.Nat.{ℕ, _+_, _-_, _<_, _≤_};
-ghost use lib.Dec.{ltb, eqb};
-ghost use lib.ListN.{length, getD, set};
+ghost use mathlib.Core.List.{[], _∷_, _++_};
+ghost use Prim.Native.Nat.{_<_};
+ghost use lib.Dec.{ltb};
+ghost use lib.ListN.{length, getD};
 ghost use Rattle.std.specs.declared.option.Option.the-variants.{Some};
 ghost use Rattle.order.specs.First.{foremost};
 ghost use Rattle.backlog.specs.Backlogs.{cells-of};
-ghost use Rattle.backlog.specs.Cells.{due-of, holds-in, Taken};
+ghost use Rattle.backlog.specs.Cells.{Taken};
 use crate::held::Held;
 use crate::places::Backlog;
 use cells::times::Slot;
-use cells::times::SlotAddSpan;
 use cells::times::Span;
 use order::Order;
 use order::first;
@@ -21,15 +20,6 @@ use scheduler::terms::Cell;
 
 /// How many cells a backlog has room for.
 const ROOM: usize = 128;
-
-impl Held {
-    /// The slot in which it is due, the last in which it may be sent.
-    pub fn due(&self) -> Slot
-        ensures { λ r. ⌜ r .0 ≡ due-of (now (self .entry)) ⌝ }
-    {
-        self.cell.eligible + Span(self.bound.0 - 1)
-    }
-}
 
 impl Backlog {
     /// With no cell.
@@ -48,32 +38,6 @@ impl Backlog {
             places: [blank; 128],
             count: 0,
         }
-    }
-
-    /// How many cells are held.
-    pub fn len(&self) -> usize
-        ensures { λ r. ⌜ r ≡ length (cells-of (now (self .entry))) ⌝ }
-    {
-        self.count
-    }
-
-    /// Whether no cell is held.
-    pub fn is_empty(&self) -> bool
-        ensures { λ r. ⌜ r ≡ eqb (length (cells-of (now (self .entry)))) 0 ⌝ }
-    {
-        self.count == 0
-    }
-
-    /// Whether a cell of the party is held.
-    pub fn holds(&self, party: u8) -> bool
-        ensures { λ r. ⌜ r ≡ holds-in (cells-of (now (self .entry))) party ⌝ }
-    {
-        for held in &self.places[0..self.count] {
-            if held.cell.party == party {
-                return true;
-            }
-        }
-        false
     }
 
     /// Holds a cell, and answers whether there was room.

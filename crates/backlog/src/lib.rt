@@ -2,4 +2,5 @@
 
 mod calls;
 pub mod held;
+mod lookups;
 pub mod places;

@@ -8,8 +8,10 @@ use Rattle.std.specs.declared.option.Option.the-variants.{Some, None}
 use Rattle.std.specs.declared.result.Result.the-variants.{Ok, Err}
 use Rattle.cells.specs.declared.faults.Cause.{Cause}
 use Rattle.cells.specs.declared.faults.Fault.{Fault}
-use Rattle.scheduler.specs.Meaning.{told, after, or-else}
+use Rattle.scheduler.specs.declared.terms.Contract.{Contract}
+use Rattle.scheduler.specs.Meaning.{Meaning, told, after, or-else}
 use Rattle.scheduler.specs.Tables.{Refuses}
+use Rattle.scheduler.proofs.Updates.{same-meaning}
 
 -- consent
 pub told-ok : {X : Type 0} (v : Option Cause) (p : ℕ) (x : X) → v ≡ None → Ok x ≡ told v p x
@@ -34,3 +36,14 @@ or-else-err (Some c) w p f r = r
 
 pub or-else-ok : (v w : Option Cause) → v ≡ None → or-else v w ≡ w
 or-else-ok v w e = ap (λ u. or-else u w) e
+
+-- what stays whatever the verdict
+pub after-same : {X : Type 0} (v : Option Cause) (x : X) → x ≡ after v x x
+after-same None x = refl
+after-same (Some c) x = refl
+
+-- a meaning after a verdict, part by part
+pub after-parts : (v : Option Cause) (m : Meaning) (n k : ℕ) (f g : ℕ → Option Contract) (h j : ℕ → ℕ → Option ℕ) → n ≡ after v (m .slot) k → f ≡ after v (m .contracts) g → h ≡ after v (m .held) j
+    → _≡_ {A = Meaning} (record { slot = n; contracts = f; held = h }) (after v m (record { slot = k; contracts = g; held = j }))
+after-parts None m n k f g h j a b c = same-meaning n k f g h j a b c
+after-parts (Some x) m n k f g h j a b c = same-meaning n (m .slot) f (m .contracts) h (m .held) a b c

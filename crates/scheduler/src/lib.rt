@@ -14,6 +14,8 @@ use cells::faults::Fault;
 use cells::times::Slot;
 use cells::times::Span;
 
+pub mod changes;
+mod lookups;
 pub mod register;
 pub mod terms;
 
@@ -33,13 +35,13 @@ pub trait Scheduler {
     ghost choice: { Self → Option Cell };
 
     // no held cell is due below the slot
-    law in_time: { (x : Self) → InTime (meaning x) };
+    law timely: { (x : Self) → InTime (meaning x) };
 
     // only parties 0 to 15 have contracts, and only parties with a contract hold cells
     law contracted: { (x : Self) → Contracted (meaning x) };
 
     // spacings and bounds are in range, and so is the slot
-    law in_range: { (x : Self) → InRange (meaning x) };
+    law ranged: { (x : Self) → InRange (meaning x) };
 
     // a held cell became eligible no later than the last cell of its party was put, and that no later than now
     law past: { (x : Self) → Past (meaning x) };

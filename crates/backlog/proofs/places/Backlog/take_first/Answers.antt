@@ -1,7 +1,7 @@
 use mathlib.Core.Path.{_≡_, sym, ap, subst, _∙_}
 use Prim.Native.Nat.{ℕ}
 use borrow.Author.Needs.{needs}
-use lib.ListN.{length}
+use lib.ListN.{length, getD}
 use Rattle.std.specs.declared.option.Option.the-variants.{Some}
 use Rattle.order.specs.First.{First}
 use Rattle.order.proofs.Foremost.{foremost-is}
@@ -16,7 +16,8 @@ returns g c =
     let x = c .swap-remove .result in
     let place : First (g .O·Order .ahead o) xs (length xs) (c .in-Continue-place .place) =
     subst (λ ys. First (g .O·Order .ahead o) ys (length ys) (c .in-Continue-place .place)) (part (c .args .self .now .places) (c .args .self .now .count)) (c .in-Continue-place .ensures tt) in
+    let same : getD xs (c .in-Continue-place .place) x ≡ x = sym (c .swap-remove .ensures .answer) in
     record {
-      answer = sym (foremost-is (g .O·Order .ahead o) (g .O·Order·met .asymmetric o) (g .O·Order·met .transitive o) xs (c .in-Continue-place .place) x place ∙ ap Some (sym (c .swap-remove .ensures .answer)));
+      answer = sym (foremost-is (g .O·Order .ahead o) (g .O·Order·met .asymmetric o) (g .O·Order·met .transitive o) xs (c .in-Continue-place .place) x place ∙ ap Some same);
       becomes = c .swap-remove .ensures .becomes;
     }
