@@ -84,10 +84,3 @@ holds-more xs n i p x l h e differs inv =
 pub holds-found : (xs : List Held) (n i p : ℕ) (x : Held) → i < length (midOf 0 (n - 0) xs) → x ≡ getD (midOf 0 (n - 0) xs) i x → x .cell .party ≡ p → true ≡ holds-in (take n xs) p
 holds-found xs n i p x h e y =
     sym (ap (λ ys. holds-in ys p) (sym (part xs n)) ∙ holds-at (midOf 0 (n - 0) xs) i p x h (ap (λ z. z .cell .party) (sym e) ∙ y))
-
--- or without one
-pub holds-none : (xs : List Held) (n i p : ℕ) → n ≤ length xs → i ≤ length (midOf 0 (n - 0) xs) → length (midOf 0 (n - 0) xs) ≤ i → holds-in (take i xs) p ≡ false → false ≡ holds-in (take n xs) p
-holds-none xs n i p l a b inv =
-    let long : length (midOf 0 (n - 0) xs) ≡ n = ap length (part xs n) ∙ length-take-le n xs l in
-    let e : i ≡ n = omega arith in
-    sym (ap (λ k. holds-in (take k xs) p) (sym e) ∙ inv)

@@ -6,8 +6,9 @@ ghost use mathlib.Core.List.{[], _∷_, _++_};
 ghost use Prim.Native.Nat.{_<_};
 ghost use lib.Dec.{ltb};
 ghost use lib.ListN.{length, getD};
+ghost use Rattle.std.specs.Options.{Cases};
 ghost use Rattle.std.specs.declared.option.Option.the-variants.{Some};
-ghost use Rattle.order.specs.First.{foremost};
+ghost use Rattle.order.specs.First.{First, foremost};
 ghost use Rattle.backlog.specs.Backlogs.{cells-of};
 ghost use Rattle.backlog.specs.Cells.{Taken};
 use crate::held::Held;
@@ -58,8 +59,15 @@ impl Backlog {
         ensures answer { λ r. ⌜ r ≡ foremost (ahead (now (order .entry))) (cells-of (now (self .entry))) ⌝ }
         ensures becomes { λ r. ⌜ Taken (cells-of (now (self .entry))) r (cells-of (now (self .exit))) ⌝ }
     {
-        let place = first(order, &self.places[0..self.count])?;
+        let place = self.foremost_place(order)?;
         Some(self.swap_remove(place))
+    }
+
+    // The place of the first cell in the order.
+    fn foremost_place<O: Order<Held>>(&self, order: &O) -> Option<usize>
+        ensures { λ r. ⌜ Cases r (cells-of (now (self .entry)) ≡ []) (First (ahead (now (order .entry))) (cells-of (now (self .entry))) (length (cells-of (now (self .entry))))) ⌝ }
+    {
+        first(order, &self.places[0..self.count])
     }
 
     // Takes the cell at a place out, and puts the cell at the last place into its place.

@@ -43,12 +43,13 @@ abbrev pub some-below : ℕ → (ℕ → Bool) → Bool
 some-below zero f = false
 some-below (suc n) f = cond (f n) true (some-below n f)
 
--- whether a cell of the party is held, eligible in some slot up to this one.
--- It is a test, since a verdict hangs on it; no later slot is looked at, since a held cell was put
+-- whether a cell of the party is held. Verdicts hang on it, so it is a test that can be carried out: a cell
+-- that is held was put, so it is eligible in some slot from 0 to this one, and these are gone through.
+-- A make that counts its cells has this test by one lemma for each answer
 unfoldable pub holds-of : Meaning → ℕ → Bool
 holds-of m p = some-below (m .slot + 1) (λ e. isSome (m .held p e))
 
--- whether a cell of any party is held
+-- whether a cell of any party is held: parties are 0 to 15
 unfoldable pub holds-any : Meaning → Bool
 holds-any m = some-below 16 (holds-of m)
 
@@ -96,6 +97,7 @@ grant-verdict m p s d own = or-else (common-verdict (m .contracts p) (holds-any 
 abbrev pub agreed : ℕ → ℕ → Contract
 agreed s d = record { spacing = record { 0 = s }; bound = record { 0 = d }; last = None }
 
+-- the contract is added
 abbrev pub granted : Meaning → ℕ → ℕ → ℕ → Meaning
 granted m p s d = record { slot = m .slot; contracts = updated (m .contracts) p (Some (agreed s d)); held = m .held }
 
@@ -104,9 +106,11 @@ abbrev pub withdraw-rule : Option Contract → Bool → Option Cause
 withdraw-rule None holds = Some NoContract
 withdraw-rule (Some c) holds = refused-if holds PartyHasCells None
 
+-- the same, of a scheduler
 abbrev pub withdraw-verdict : Meaning → ℕ → Option Cause
 withdraw-verdict m p = withdraw-rule (m .contracts p) (holds-of m p)
 
+-- the contract is gone
 abbrev pub withdrawn : Meaning → ℕ → Meaning
 withdrawn m p = record { slot = m .slot; contracts = updated (m .contracts) p None; held = m .held }
 
@@ -119,6 +123,7 @@ abbrev pub put-rule : Option Contract → ℕ → Option Cause
 put-rule None n = Some NoContract
 put-rule (Some c) n = refused-if (too-soon c n) TooSoon None
 
+-- the same, of a scheduler
 abbrev pub put-verdict : Meaning → ℕ → Option Cause
 put-verdict m p = put-rule (m .contracts p) (m .slot)
 
@@ -126,6 +131,7 @@ put-verdict m p = put-rule (m .contracts p) (m .slot)
 abbrev pub stamped : Contract → ℕ → Contract
 stamped c n = record { spacing = c .spacing; bound = c .bound; last = Some (record { 0 = n }) }
 
+-- the contract, if there is one, with n as its last
 abbrev pub used : Option Contract → ℕ → Option Contract
 used None n = None
 used (Some c) n = Some (stamped c n)
@@ -142,6 +148,7 @@ filled m p l = record {
 abbrev pub serve-rule : ℕ → Option Cause
 serve-rule n = refused-if (ltb last-slot n) SlotsOver None
 
+-- the same, of a scheduler
 abbrev pub serve-verdict : Meaning → Option Cause
 serve-verdict m = serve-rule (m .slot)
 
