@@ -1,0 +1,5 @@
+pub mod Holds
+pub mod Registers
+pub mod Undone
+pub mod Updates
+pub mod Verdicts

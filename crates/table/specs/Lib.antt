@@ -1,0 +1,3 @@
+pub mod Kept
+pub mod Tables
+pub mod Turns
