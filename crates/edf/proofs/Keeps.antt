@@ -62,6 +62,16 @@ coming-put c t e x h now due pos =
     omega arith))
     (cases-lt (due-of x) e)
 
+-- the order of held cells
+not-earlier : (x y : Held) → earlier y x ≡ false → due-of x ≤ due-of y
+not-earlier x y h = grind (arith, tells)
+
+pub earlier-asym : (x y : Held) → earlier x y ≡ true → earlier y x ≡ false
+earlier-asym x y h = grind (arith, tells)
+
+pub earlier-weak : (x y z : Held) → earlier x y ≡ false → earlier y z ≡ false → earlier x z ≡ false
+earlier-weak x y z h k = grind (arith, tells)
+
 module _ (cs : List (Option Contract)) (pos : (p : ℕ) → 1 ≤ spacing-or (getD cs p None)) where
   all-coming : (t n : ℕ) → sumBy (coming t (t + n)) cs ≤ H cs n
   all-coming t n = sum-le (coming t (t + n)) (each-of (due-in n)) cs None (λ i l. coming-due t n (getD cs i None) (pos i))
@@ -76,15 +86,6 @@ module _ (cs : List (Option Contract)) (pos : (p : ℕ) → 1 ≤ spacing-or (ge
     tested = test;
     timely = λ n. (let z : sumBy (due-before (t + n)) xs ≡ 0 = ap (sumBy (due-before (t + n))) e in let k = all-coming t n in let h = test n in omega arith);
   }
-
-  not-earlier : (x y : Held) → earlier y x ≡ false → due-of x ≤ due-of y
-  not-earlier x y h = grind (arith, tells)
-
-  earlier-asym : (x y : Held) → earlier x y ≡ true → earlier y x ≡ false
-  earlier-asym x y h = grind (arith, tells)
-
-  earlier-weak : (x y z : Held) → earlier x y ≡ false → earlier y z ≡ false → earlier x z ≡ false
-  earlier-weak x y z h k = grind (arith, tells)
 
   -- a slot in which the cell that is due first is served
   pub sound-served : (t : ℕ) (xs ys : List Held) (o : Option Held) → foremost earlier xs ≡ o → Taken xs o ys → Sound t cs xs → Sound (t + 1) cs ys

@@ -11,29 +11,32 @@ use Rattle.std.specs.declared.option.Option.the-variants.{Some, None}
 use Rattle.std.specs.shelf.Lists.{sumBy}
 use Rattle.std.proofs.shelf.Sums.{sumBy-set}
 use Rattle.std.proofs.shelf.Tests.{le-leb, le-ltb}
+use Rattle.std.proofs.shelf.Ways.{tells}
 use Rattle.cells.specs.declared.faults.Cause.{Cause}
 use Rattle.cells.specs.declared.faults.Cause.the-variants.{TableExceeded, DemandExceeded}
 use Rattle.order.specs.First.{foremost}
+use Rattle.order.proofs.Foremost.{foremost-at}
 use Rattle.scheduler.specs.declared.terms.Contract.{Contract}
 use Rattle.scheduler.specs.Laws.{Contracted, Past, InTime, Chosen}
-use Rattle.scheduler.specs.Meaning.{agreed, refused-if, holds-any, after, withdraw-rule, stamped, used, put-rule}
-use Rattle.scheduler.specs.Tables.{contracts-of}
+use Rattle.scheduler.specs.Meaning.{due, agreed, refused-if, holds-any, after, withdraw-rule, stamped, used, put-rule}
+use Rattle.scheduler.specs.Tables.{contracts-of, bound-or}
 use Rattle.scheduler.proofs.Registers.{party, terms}
 use Rattle.scheduler.proofs.Holds.{below-false}
 use Rattle.backlog.specs.declared.held.Held.{Held}
-use Rattle.backlog.specs.Cells.{holds-in, at}
+use Rattle.backlog.specs.Cells.{due-of, held-in, holds-in, at}
 use Rattle.backlog.proofs.HeldCells.{held-foremost, busy-is, pushed}
 use Rattle.demand.specs.Cells.{due-before, Orderly}
 use Rattle.demand.specs.Totals.{each-of, total-of, places, exceeds-table}
 use Rattle.demand.proofs.Counts.{ceil-self, jobs-self}
-use Rattle.demand.proofs.Keeps.{Puts, put-new, room, contracted-of, past-of, in-time-of}
+use Rattle.demand.proofs.Keeps.{Puts, put-new, room, held-place, bound-at, contracted-of, past-of, in-time-of}
+use Rattle.demand.proofs.Firsts.{foremost-none, foremost-least}
 use Rattle.demand.proofs.Sums.{sum-zero}
 use Rattle.edf.specs.Admission.{put-in, due-in, W, H, P, over-demand, busy-verdict, test-of}
 use Rattle.edf.specs.Coming.{earlier, coming}
-use Rattle.edf.specs.States.{table-of, held-of, edf-meaning, cell-of}
+use Rattle.edf.specs.States.{table-of, held-of, edf-meaning, cell-of, edf-choice, Earliest}
 use Rattle.edf.specs.declared.state.Edf.{Edf}
 use Rattle.edf.proofs.Busy.{period-one}
-use Rattle.edf.proofs.Keeps.{Sound, sound-withdrawn, sound-put}
+use Rattle.edf.proofs.Keeps.{Sound, earlier-asym, earlier-weak, sound-withdrawn, sound-put}
 
 -- what its ghost fields say
 pub sound : (x : Edf) → Sound (x .register .slot .0) (table-of x) (held-of x)
@@ -67,9 +70,31 @@ chosen x (Some y) e = held-foremost earlier (held-of x) y (x .single) e
 pub moved : (t u : ℕ) (cs ds : List (Option Contract)) (xs : List Held) → u ≡ t → ds ≡ cs → Sound t cs xs → Sound u ds xs
 moved t u cs ds xs a b v = subst (λ n. Sound n ds xs) (sym a) (subst (λ es. Sound t es xs) (sym b) v)
 
--- the test of the code whether a cell is held
-pub busy-test : (x : Edf) (n : ℕ) → n ≡ length (held-of x) → ltb 0 n ≡ holds-any (edf-meaning x)
-busy-test x n e = ap (ltb 0) e ∙ sym (busy-is (edf-meaning x) (held-of x) refl (contracted x) (past x))
+-- whether a cell is held
+pub busy : (x : Edf) → ltb 0 (length (held-of x)) ≡ holds-any (edf-meaning x)
+busy x = sym (busy-is (edf-meaning x) (held-of x) refl (contracted x) (past x))
+
+not-earlier : (x y : Held) → earlier y x ≡ false → (due-of x ≤ due-of y) × (due-of x ≡ due-of y → x .cell .party ≤ y .cell .party)
+not-earlier x y h = (grind (arith, tells), λ e. grind (arith, tells))
+
+-- none is due before the one chosen
+pub earliest : (x : Edf) → Earliest (edf-meaning x) (edf-choice x)
+earliest x = way (foremost earlier (held-of x)) refl
+  where
+    way : (o : Option Held) → foremost earlier (held-of x) ≡ o → Earliest (edf-meaning x) (cell-of o)
+    way None k = λ p e. ap (λ ys. held-in ys p e) (foremost-none earlier (held-of x) k)
+    way (Some y) k = λ p e l c d h kc kd.
+        let hs = held-of x in
+        let i = held-place hs p e l y h in
+        let z = getD hs (i .0) y in
+        let ahead = not-earlier y z (foremost-least earlier earlier-asym earlier-weak hs y k (i .0) y (i .1)) in
+        let under : z .bound .0 ≡ c .bound .0 = bound-at (table-of x) hs (i .0) y (sound x .orderly) (i .1) ∙ ap (λ q. bound-or (getD (table-of x) q None)) (i .2) ∙ ap bound-or kc in
+        let j = foremost-at earlier hs y y k in
+        let own : y .bound .0 ≡ d .bound .0 = subst (λ w. w .bound .0 ≡ bound-or (getD (table-of x) (w .cell .party) None)) (j .2) (bound-at (table-of x) hs (j .0) y (sound x .orderly) (j .1)) ∙ ap bound-or kd in
+        let late : due-of z ≡ due e (c .bound .0) = ap (λ n. due n (z .bound .0)) (i .3) ∙ ap (due e) under in
+        let mine : due-of y ≡ due (y .cell .eligible .0) (d .bound .0) = ap (due (y .cell .eligible .0)) own in
+        let le = ahead .0 in
+        (omega arith, λ q. (let same : due-of y ≡ due-of z = mine ∙ q ∙ sym late in let r = ahead .1 same in let w = i .2 in omega arith))
 
 -- after a withdrawal, refused or not
 pub withdrawal : (x : Edf) (p : ℕ) (h : Bool) → h ≡ holds-in (held-of x) p → Sound (x .register .slot .0) (after (withdraw-rule (contracts-of (table-of x) p) h) (table-of x) (set (table-of x) p None)) (held-of x)

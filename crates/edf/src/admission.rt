@@ -2,9 +2,10 @@
 
 ghost use mathlib.Core.Path.{_≡_};
 ghost use Prim.Native.Nat.{_≤_};
+ghost use lib.Dec.{leb, ltb};
 ghost use Rattle.std.specs.Slices.{found};
 ghost use Rattle.scheduler.specs.Meaning.{told};
-ghost use Rattle.edf.specs.Admission.{put-in, due-in, P, over-demand, test-of};
+ghost use Rattle.edf.specs.Admission.{put-in, due-in, W, H as demand-in, P, over-demand, test-of};
 use cells::faults::Cause;
 use cells::faults::Fault;
 use cells::times::Span;
@@ -45,27 +46,42 @@ impl Demand for DueIn as DueInDemand {
     }
 }
 
+/// Whether no more cells can be put in so many slots than there are slots.
+fn keeps_up(register: &Register, slots: u32) -> bool
+    ensures { λ r. ⌜ r ≡ leb (W (now (register .entry) .contracts) slots) slots ⌝ }
+{
+    total(register, &PutIn(Span(slots))) <= slots as u64
+}
+
 /// The busy period: the least number of slots, from 1 to 1,024, in which no more cells can be put
-/// than it has slots.
+/// than there are slots.
 fn busy_period(register: &Register) -> Option<u32>
     ensures value { λ r. ⌜ r ≡ P (now (register .entry) .contracts) ⌝ }
     ensures within { λ r. ⌜ found r (λ p. p ≤ 1024) ⌝ }
 {
     for slots in 1..=PERIOD_MAX {
-        if total(register, &PutIn(Span(slots))) <= slots as u64 {
+        if keeps_up(register, slots) {
             return Some(slots);
         }
     }
     None
 }
 
-/// Whether, in some number of slots up to the busy period, more cells can be due than it has slots.
+/// Whether more cells can come and be due in so many slots than there are slots.
+fn falls_behind(register: &Register, slots: u32) -> bool
+    ensures { λ r. ⌜ r ≡ ltb slots (demand-in (now (register .entry) .contracts) slots) ⌝ }
+{
+    total(register, &DueIn(Span(slots))) > slots as u64
+}
+
+/// Whether, in some number of slots up to the busy period, more cells can come and be due than
+/// there are slots.
 fn exceeds_demand(register: &Register, period: u32) -> bool
     requires { ⌜ period ≤ 1024 ⌝ }
     ensures { λ r. ⌜ r ≡ over-demand (now (register .entry) .contracts) period ⌝ }
 {
     for slots in 1..=period {
-        if total(register, &DueIn(Span(slots))) > slots as u64 {
+        if falls_behind(register, slots) {
             return true;
         }
     }

@@ -2,10 +2,14 @@
 
 ghost use mathlib.Core.Path.{_≡_};
 ghost use mathlib.Core.List.{[]};
-ghost use lib.ListN.{replicate};
-ghost use Rattle.std.specs.declared.option.Option.the-variants.{None};
-ghost use Rattle.scheduler.specs.Meaning.{fresh};
-ghost use Rattle.edf.specs.States.{table-of, held-of, edf-meaning, edf-test, edf-choice};
+ghost use lib.Dec.{ltb};
+ghost use lib.ListN.{length, set, replicate};
+ghost use Rattle.std.specs.Results.{Cases};
+ghost use Rattle.std.specs.declared.option.Option.the-variants.{Some, None};
+ghost use Rattle.scheduler.specs.Meaning.{fresh, told, after, agreed, used, common-verdict, granted, withdraw-verdict, withdrawn, put-verdict, filled, serve-verdict, stepped};
+ghost use Rattle.scheduler.specs.Tables.{contracts-of, Refuses, Extends};
+ghost use Rattle.backlog.specs.Cells.{holds-in};
+ghost use Rattle.edf.specs.States.{table-of, held-of, edf-meaning, edf-test, edf-verdict, edf-choice, Earliest};
 use crate::admission::admit;
 use crate::due::ByDue;
 use crate::due::ByDueOrder;
@@ -32,8 +36,36 @@ impl Edf {
             backlog: Backlog::new(),
         }
     }
+
+    // The register with a contract added, unless it is one that every make refuses.
+    fn trial(&self, party: u8, spacing: Span, bound: Span) -> Result<Register, Fault>
+        ensures { λ r. ⌜ Cases r (λ t. Extends (table-of (now (self .entry))) (t .contracts) (ltb 0 (length (held-of (now (self .entry))))) party (spacing .0) (bound .0) × (t .slot ≡ now (self .entry) .register .slot)) (Refuses (common-verdict (contracts-of (table-of (now (self .entry))) party) (ltb 0 (length (held-of (now (self .entry))))) party (spacing .0) (bound .0)) party) ⌝ }
+    {
+        self.register
+            .with(party, spacing, bound, self.backlog.len() > 0)
+    }
+
+    // A cell of the party, eligible in this slot.
+    fn arrival(&self, party: u8, label: u32) -> Cell
+        ensures { λ r. ⌜ r ≡ record { party = party; label = label; eligible = now (self .entry) .register .slot } ⌝ }
+    {
+        Cell {
+            party,
+            label,
+            eligible: self.register.slot(),
+        }
+    }
+
+    // Whether a cell of the party is held.
+    fn holds(&self, party: u8) -> bool
+        ensures { λ r. ⌜ r ≡ holds-in (held-of (now (self .entry))) party ⌝ }
+    {
+        self.backlog.holds(party)
+    }
 }
 
+/// Beside what the trait says, each call states what it leaves of the contract table, on which
+/// the test of a grant hangs, and `serve` that no held cell comes before its choice.
 pub impl Scheduler for Edf as EdfScheduler {
     ghost meaning = { edf-meaning };
 
@@ -49,27 +81,33 @@ pub impl Scheduler for Edf as EdfScheduler {
         self.register.contract(party)
     }
 
-    fn grant(&mut self, party: u8, spacing: Span, bound: Span) -> Result<(), Fault> {
-        let busy = self.backlog.len() > 0;
-        let trial = self.register.with(party, spacing, bound, busy)?;
+    fn grant(&mut self, party: u8, spacing: Span, bound: Span) -> Result<(), Fault>
+        ensures answer { λ r. ⌜ r ≡ told (edf-verdict (now (self .entry)) party (spacing .0) (bound .0)) party tt ⌝ }
+        ensures becomes { λ _. ⌜ edf-meaning (now (self .exit)) ≡ after (edf-verdict (now (self .entry)) party (spacing .0) (bound .0)) (edf-meaning (now (self .entry))) (granted (edf-meaning (now (self .entry))) party (spacing .0) (bound .0)) ⌝ }
+        ensures table { λ _. ⌜ table-of (now (self .exit)) ≡ after (edf-verdict (now (self .entry)) party (spacing .0) (bound .0)) (table-of (now (self .entry))) (set (table-of (now (self .entry))) party (Some (agreed (spacing .0) (bound .0)))) ⌝ }
+    {
+        let trial = self.trial(party, spacing, bound)?;
         admit(&trial, party)?;
         self.register = trial;
         Ok(())
     }
 
-    fn withdraw(&mut self, party: u8) -> Result<(), Fault> {
-        let holds = self.backlog.holds(party);
+    fn withdraw(&mut self, party: u8) -> Result<(), Fault>
+        ensures answer { λ r. ⌜ r ≡ told (withdraw-verdict (edf-meaning (now (self .entry))) party) party tt ⌝ }
+        ensures becomes { λ _. ⌜ edf-meaning (now (self .exit)) ≡ after (withdraw-verdict (edf-meaning (now (self .entry))) party) (edf-meaning (now (self .entry))) (withdrawn (edf-meaning (now (self .entry))) party) ⌝ }
+        ensures table { λ _. ⌜ table-of (now (self .exit)) ≡ after (withdraw-verdict (edf-meaning (now (self .entry))) party) (table-of (now (self .entry))) (set (table-of (now (self .entry))) party None) ⌝ }
+    {
+        let holds = self.holds(party);
         self.register.withdraw(party, holds)
     }
 
-    fn put(&mut self, party: u8, label: u32) -> Result<(), Fault> {
-        let eligible = self.register.slot();
+    fn put(&mut self, party: u8, label: u32) -> Result<(), Fault>
+        ensures answer { λ r. ⌜ r ≡ told (put-verdict (edf-meaning (now (self .entry))) party) party tt ⌝ }
+        ensures becomes { λ _. ⌜ edf-meaning (now (self .exit)) ≡ after (put-verdict (edf-meaning (now (self .entry))) party) (edf-meaning (now (self .entry))) (filled (edf-meaning (now (self .entry))) party label) ⌝ }
+        ensures table { λ _. ⌜ table-of (now (self .exit)) ≡ after (put-verdict (edf-meaning (now (self .entry))) party) (table-of (now (self .entry))) (set (table-of (now (self .entry))) party (used (contracts-of (table-of (now (self .entry))) party) (now (self .entry) .register .slot .0))) ⌝ }
+    {
+        let cell = self.arrival(party, label);
         let contract = self.register.put(party)?;
-        let cell = Cell {
-            party,
-            label,
-            eligible,
-        };
         let _ = self.backlog.push(Held {
             cell,
             bound: contract.bound,
@@ -77,7 +115,12 @@ pub impl Scheduler for Edf as EdfScheduler {
         Ok(())
     }
 
-    fn serve(&mut self) -> Result<Option<Cell>, Fault> {
+    fn serve(&mut self) -> Result<Option<Cell>, Fault>
+        ensures answer { λ r. ⌜ r ≡ told (serve-verdict (edf-meaning (now (self .entry)))) 255 (edf-choice (now (self .entry))) ⌝ }
+        ensures becomes { λ _. ⌜ edf-meaning (now (self .exit)) ≡ after (serve-verdict (edf-meaning (now (self .entry)))) (edf-meaning (now (self .entry))) (stepped (edf-meaning (now (self .entry))) (edf-choice (now (self .entry)))) ⌝ }
+        ensures table { λ _. ⌜ table-of (now (self .exit)) ≡ table-of (now (self .entry)) ⌝ }
+        ensures earliest { λ _. ⌜ Earliest (edf-meaning (now (self .entry))) (edf-choice (now (self .entry))) ⌝ }
+    {
         self.register.tick()?;
         match self.backlog.take_first(&ByDue) {
             Some(held) => Ok(Some(held.cell)),
@@ -85,7 +128,11 @@ pub impl Scheduler for Edf as EdfScheduler {
         }
     }
 
-    fn reset(&mut self) {
+    fn reset(&mut self)
+        ensures meaning { λ _. ⌜ edf-meaning (now (self .exit)) ≡ fresh ⌝ }
+        ensures table { λ _. ⌜ table-of (now (self .exit)) ≡ replicate 16 None ⌝ }
+        ensures held { λ _. ⌜ held-of (now (self .exit)) ≡ [] ⌝ }
+    {
         *self = Edf::new();
     }
 }

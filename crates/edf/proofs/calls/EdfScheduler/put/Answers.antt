@@ -22,7 +22,8 @@ pub ghost-self-2 : need.ghost-self-2
 ghost-self-2 c =
     let x = c .args .self .now in
     let told = c .in-Continue-contract .ensures tt .answer in
-    let new = pushes x _ _ (c .args .party) (c .in-Continue-contract .contract) (c .push .ensures .becomes) (told .0) (told .1) refl (ap (λ t. t .0) (c .slot-eligible .ensures)) refl in
+    let is = c .arrival-cell .ensures in
+    let new = pushes x _ _ (c .args .party) (c .in-Continue-contract .contract) (c .push .ensures .becomes) (told .0) (told .1) (ap (λ y. y .party) is) (ap (λ y. y .eligible .0) is) refl in
     let v = moved (x .register .slot .0) _ _ _ (cells-of (c .push .last .self)) (ap (λ n. n .0) (c .put .ensures .slot)) (c .put .ensures .table) (new .2) in
     (v .orderly .single, (v .orderly .spaced, (v .orderly .agreed, (v .orderly .fits, (v .tested, (v .timely, tt))))))
 
@@ -32,11 +33,12 @@ returns c =
     let p = c .args .party in
     let m = edf-meaning x in
     let told = c .in-Continue-contract .ensures tt .answer in
-    let at-slot = ap (λ t. t .0) (c .slot-eligible .ensures) in
-    let new = pushes x _ _ p (c .in-Continue-contract .contract) (c .push .ensures .becomes) (told .0) (told .1) refl at-slot refl in
+    let is = c .arrival-cell .ensures in
+    let new = pushes x _ _ p (c .in-Continue-contract .contract) (c .push .ensures .becomes) (told .0) (told .1) (ap (λ y. y .party) is) (ap (λ y. y .eligible .0) is) refl in
     let ok : put-verdict m p ≡ None = told .1 in
-    let held = held-pushed (held-of x) _ _ (c .push .ensures .becomes) (new .0) p (m .slot) (c .args .label) refl at-slot refl (new .1) in
+    let held = held-pushed (held-of x) _ _ (c .push .ensures .becomes) (new .0) p (m .slot) (c .args .label) (ap (λ y. y .party) is) (ap (λ y. y .eligible .0) is) (ap (λ y. y .label) is) (new .1) in
     record {
       answer = told-ok _ _ _ ok;
       becomes = after-parts (put-verdict m p) m _ _ _ _ _ _ (ap (λ n. n .0) (c .put .ensures .slot) ∙ after-same (put-verdict m p) (m .slot)) (c .put .ensures .contracts) (after-ok (put-verdict m p) _ _ _ ok held);
+      table = c .put .ensures .table;
     }

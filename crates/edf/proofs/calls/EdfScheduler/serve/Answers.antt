@@ -11,7 +11,7 @@ use Rattle.backlog.proofs.HeldCells.{held-taken}
 use Rattle.edf.specs.States.{table-of, held-of, edf-meaning, edf-choice, cell-of}
 use Rattle.edf.specs.Coming.{earlier}
 use Rattle.edf.proofs.Keeps.{sound-served}
-use Rattle.edf.proofs.Laws.{sound, moved}
+use Rattle.edf.proofs.Laws.{sound, moved, earliest}
 use Rattle.edf.proofs.calls.EdfScheduler.serve.Needs as need
 
 pub returns-in-Some : need.returns-in-Some
@@ -26,6 +26,8 @@ returns-in-Some c =
     record {
       answer = search needs;
       becomes = after-parts (serve-verdict m) m _ _ _ _ _ _ (c .tick .ensures .slot) (after-ok (serve-verdict m) _ _ _ ok (search needs)) (after-ok (serve-verdict m) _ _ _ ok held);
+      table = c .tick .ensures .table;
+      earliest = earliest s;
     }
 
 pub ghost-self : need.ghost-self
@@ -45,3 +47,15 @@ ghost-self-2 c =
     let served = sound-served (table-of x) (x .register .spaced) t (held-of x) _ _ (sym (c .take-first .ensures .answer)) (c .take-first .ensures .becomes) (sound x) in
     let v = moved (t + 1) _ (table-of x) _ (cells-of (c .take-first .last .self)) next (c .tick .ensures .table) served in
     (v .orderly .single, (v .orderly .spaced, (v .orderly .agreed, (v .orderly .fits, (v .tested, (v .timely, tt))))))
+
+pub returns-in-None : need.returns-in-None
+returns-in-None c =
+    let x = c .args .self .now in
+    let first = earliest x in
+    record { answer = search needs; becomes = search needs; table = search needs; earliest = first }
+
+pub returns-in-Break-tick : need.returns-in-Break-tick
+returns-in-Break-tick c =
+    let x = c .args .self .now in
+    let first = earliest x in
+    record { answer = search needs; becomes = search needs; table = search needs; earliest = first }

@@ -1,11 +1,11 @@
 use mathlib.Core.Path.{_≡_, refl, sym, ap, _∙_}
-use borrow.Author.Needs.{needs}
+use lib.ListN.{set}
 use Rattle.scheduler.specs.Meaning.{told, after, withdraw-rule, withdraw-verdict, updated, holds-of}
 use Rattle.scheduler.proofs.Verdicts.{after-same, after-parts}
 use Rattle.std.specs.declared.option.Option.the-variants.{Some, None}
 use Rattle.backlog.specs.Backlogs.{cells-of}
 use Rattle.backlog.proofs.HeldCells.{holds-is}
-use Rattle.edf.specs.States.{held-of, edf-meaning}
+use Rattle.edf.specs.States.{table-of, held-of, edf-meaning}
 use Rattle.edf.proofs.Laws.{contracted, past, moved, withdrawal}
 use Rattle.edf.proofs.calls.EdfScheduler.withdraw.Needs as need
 
@@ -22,6 +22,7 @@ returns c =
           (ap (λ n. n .0) (c .withdraw .ensures .slot) ∙ after-same (withdraw-verdict m p) (m .slot))
           (c .withdraw .ensures .contracts ∙ ap (λ b. after (withdraw-rule (m .contracts p) b) (m .contracts) (updated (m .contracts) p None)) h)
           (after-same (withdraw-verdict m p) (m .held));
+      table = c .withdraw .ensures .table ∙ ap (λ b. after (withdraw-rule (m .contracts p) b) (table-of s) (set (table-of s) p None)) h;
     }
 
 pub ghost-self : need.ghost-self
