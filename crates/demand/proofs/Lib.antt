@@ -1,0 +1,9 @@
+pub mod Counts
+pub mod Sums
+pub mod Tables
+pub mod Cells
+pub mod Spacing
+pub mod Room
+pub mod Keeps
+pub mod Firsts
+pub mod Consent
