@@ -1,0 +1,4 @@
+pub mod Powers
+pub mod Tested
+pub mod Suffice
+pub mod Keeps
