@@ -39,9 +39,11 @@ use Rattle.demand.proofs.Tables.{total-used, total-gone}
 use Rattle.sp.specs.declared.state.Sp.{Sp}
 use Rattle.sp.specs.Levels.{level, level-of, share, shares, levels-exceeded, sp-verdict, table-of, sp-judges, precedes}
 use Rattle.sp.specs.Ends.{low, has-end}
-use Rattle.sp.specs.Makes.{sp-meaning}
+use Rattle.sp.specs.Makes.{sp-meaning, sp-choice}
+use Rattle.sp.specs.Served.{GoesFirst}
 use Rattle.sp.proofs.Powers.{level-le}
 use Rattle.sp.proofs.Tested.{all-levels, alone}
+use Rattle.sp.proofs.Firsts.{goes-first}
 use Rattle.sp.proofs.Suffice.{starts, serves, puts, withdraws, in-time}
 
 -- what SP keeps of its slot, its contracts and its held cells
@@ -104,6 +106,10 @@ contracted s = contracted-of (s .register) (cells-of (s .backlog)) (sound s .ord
 
 pub past : (s : Sp) → Past (sp-meaning s)
 past s = past-of (s .register) (cells-of (s .backlog)) (sound s .orderly)
+
+-- the cell that is served goes first
+pub first : (s : Sp) → GoesFirst (sp-meaning s) (sp-choice s)
+first s = goes-first (s .register .slot .0) (s .register .contracts) (cells-of (s .backlog)) (foremost precedes (cells-of (s .backlog))) (sound s .orderly) refl
 
 -- what a verdict that consents has passed
 passed : (b : Bool) (c : Cause) (v : Option Cause) → refused-if b c v ≡ None → (b ≡ false) × (v ≡ None)
