@@ -10,8 +10,8 @@ use lib.Seq.{getD-set-same, getD-set-other}
 use Rattle.std.specs.declared.option.Option.{Option}
 use Rattle.std.specs.declared.option.Option.the-variants.{Some, None}
 use Rattle.std.specs.shelf.Lists.{sumBy}
-use Rattle.std.proofs.shelf.Sums.{sumBy-push}
-use Rattle.std.proofs.shelf.Tests.{cases-lt, cases-eq}
+use Rattle.std.proofs.shelf.Sums.{sumBy-push, getD-le-sumBy}
+use Rattle.std.proofs.shelf.Tests.{cases-lt, cases-eq, cond-false}
 use Rattle.scheduler.specs.declared.register.Register.{Register}
 use Rattle.scheduler.specs.declared.terms.Contract.{Contract}
 use Rattle.scheduler.specs.Laws.{InTime, Contracted, Past, Since}
@@ -20,13 +20,13 @@ use Rattle.scheduler.specs.Tables.{contracts-of, spacing-or, bound-or, last-or}
 use Rattle.scheduler.proofs.Registers.{parties, lasts, terms}
 use Rattle.scheduler.proofs.Updates.{each-set}
 use Rattle.backlog.specs.declared.held.Held.{Held}
-use Rattle.backlog.specs.Cells.{due-of, held-in, holds-in, at, Taken}
+use Rattle.backlog.specs.Cells.{due-of, is-cell, held-in, holds-in, at, Taken}
 use Rattle.backlog.proofs.HeldCells.{held-none}
 use Rattle.demand.specs.Cells.{meaning-of, next-slot, put-since, allowed-by, allowed, stray, due-before, Orderly}
 use Rattle.demand.specs.Totals.{total-of, places}
 use Rattle.demand.proofs.Sums.{each-le, each-le-add}
 use Rattle.demand.proofs.Tables.{total-used, total-gone}
-use Rattle.demand.proofs.Cells.{at-since, at-late, at-cases, stray-other, stray-same, none-since, stray-le, before-no}
+use Rattle.demand.proofs.Cells.{at-since, at-late, at-cases, stray-other, stray-same, stray-none, none-since, stray-le, before-no}
 use Rattle.demand.proofs.Spacing.{next-now, allowed-since, allowed-none, spaced-put}
 use Rattle.demand.proofs.Room.{within}
 
@@ -155,6 +155,32 @@ contracted-of r xs v = record { parties = parties r; cells = λ p e k. cells p e
 -- a cell of a party and eligible slot is counted where it is held
 pub held-some : (p e l : ℕ) (xs : List Held) → held-in xs p e ≡ Some l → 1 ≤ sumBy (at p e) xs
 held-some p e l xs h = ⊎-elim (λ (lt : 0 < sumBy (at p e) xs). lt) (λ (ge : sumBy (at p e) xs ≤ 0). absurd (let n = held-none p e xs (omega arith) in let z : _≡_ {A = ℕ} 0 1 = cc in omega arith)) (cases-lt 0 (sumBy (at p e) xs))
+
+-- a held cell stands at some place
+pub held-place : (xs : List Held) (p e l : ℕ) (d : Held) → held-in xs p e ≡ Some l → (i : ℕ) × (i < length xs) × (getD xs i d .cell .party ≡ p) × (getD xs i d .cell .eligible .0 ≡ e)
+held-place [] p e l d h = absurd (let z : _≡_ {A = ℕ} 0 1 = cc in omega arith)
+held-place (x ∷ xs) p e l d h =
+    ⊎-elim
+    (λ (z : at p e x ≡ 0).
+    (let miss : is-cell p e x ≡ false = unmarked (is-cell p e x) z in
+    let r = held-place xs p e l d (sym (cond-false (is-cell p e x) (Some (x .cell .label)) (held-in xs p e) miss) ∙ h) in
+    (suc (r .0), omega (arith, r .1), r .2, r .3)))
+    (λ (w : (p ≡ x .cell .party) × (e ≡ x .cell .eligible .0) × (at p e x ≡ 1)). (0, omega arith, sym (w .0), sym (w .1)))
+    (at-cases p e x)
+  where
+    unmarked : (b : Bool) → _≡_ {A = ℕ} (cond b 1 0) 0 → b ≡ false
+    unmarked true z = absurd (omega arith)
+    unmarked false z = refl
+
+-- and is held under its contract's bound
+pub bound-at : (cs : List (Option Contract)) (xs : List Held) (i : ℕ) (d : Held) → Orderly cs xs → i < length xs → getD xs i d .bound .0 ≡ bound-or (getD cs (getD xs i d .cell .party) None)
+bound-at cs xs i d v l =
+    let y = getD xs i d in
+    let p = y .cell .party in
+    let b = bound-or (getD cs p None) in
+    let strays = getD-le-sumBy (stray p b) xs i d l in
+    let own : stray p b y ≡ 0 = let s = v .agreed p in omega arith in
+    stray-none p b y refl own
 
 -- a held cell became eligible no later than its party's last was put
 pub past-of : (r : Register) (xs : List Held) → Orderly (r .contracts) xs → Past (meaning-of (r .slot .0) (r .contracts) xs)

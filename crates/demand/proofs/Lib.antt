@@ -5,3 +5,5 @@ pub mod Cells
 pub mod Spacing
 pub mod Room
 pub mod Keeps
+pub mod Firsts
+pub mod Consent

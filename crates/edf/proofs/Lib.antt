@@ -1,0 +1,4 @@
+pub mod Busy
+pub mod Keeps
+pub mod Laws
+pub mod Examples

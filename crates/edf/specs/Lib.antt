@@ -1,0 +1,4 @@
+pub mod Admission
+pub mod Coming
+pub mod States
+pub mod Examples
