@@ -3,4 +3,4 @@ pub mod Tested
 pub mod Firsts
 pub mod Suffice
 pub mod Keeps
-pub mod Worked
+pub mod Examples

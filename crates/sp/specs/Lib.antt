@@ -1,5 +1,5 @@
 pub mod Levels
 pub mod Ends
 pub mod Served
-pub mod Makes
-pub mod Worked
+pub mod States
+pub mod Examples

@@ -8,7 +8,7 @@ ghost use Rattle.scheduler.specs.Meaning.{fresh, told, after, stepped, serve-ve
 ghost use Rattle.backlog.specs.Backlogs.{cells-of};
 ghost use Rattle.sp.specs.Levels.{sp-verdict};
 ghost use Rattle.sp.specs.Served.{GoesFirst};
-ghost use Rattle.sp.specs.Makes.{sp-meaning, sp-test, sp-choice};
+ghost use Rattle.sp.specs.States.{sp-meaning, sp-test, sp-choice};
 use crate::levels::exceeds_levels;
 use crate::serving::ByLevel;
 use crate::serving::ByLevelOrder;
@@ -63,6 +63,9 @@ impl Sp {
     }
 }
 
+/// Its test is a function of what it means, so whoever knows its contracts knows its answer to a
+/// proposed one. Beside what the trait says, `serve` states that the cell it answers goes first
+/// of all held cells: by the lowest level, then the earliest eligible slot, then the lowest party.
 pub impl Scheduler for Sp as SpScheduler {
     ghost meaning = { sp-meaning };
 
@@ -107,8 +110,6 @@ pub impl Scheduler for Sp as SpScheduler {
         Ok(())
     }
 
-    /// Besides, what it answers goes first of all held cells: by the lowest level, then the
-    /// earliest eligible slot, then the lowest party.
     fn serve(&mut self) -> Result<Option<Cell>, Fault>
         ensures answer { λ r. ⌜ r ≡ told (serve-verdict (sp-meaning (now (self .entry)))) 255 (sp-choice (now (self .entry))) ⌝ }
         ensures becomes { λ _. ⌜ sp-meaning (now (self .exit)) ≡ after (serve-verdict (sp-meaning (now (self .entry)))) (sp-meaning (now (self .entry))) (stepped (sp-meaning (now (self .entry))) (sp-choice (now (self .entry)))) ⌝ }
@@ -121,7 +122,11 @@ pub impl Scheduler for Sp as SpScheduler {
         }
     }
 
-    fn reset(&mut self) {
+    fn reset(&mut self)
+        ensures meaning { λ _. ⌜ sp-meaning (now (self .exit)) ≡ fresh ⌝ }
+        ensures contracts { λ _. ⌜ now (self .exit) .register .contracts ≡ replicate 16 None ⌝ }
+        ensures cells { λ _. ⌜ cells-of (now (self .exit) .backlog) ≡ [] ⌝ }
+    {
         *self = Sp::new();
     }
 }

@@ -7,7 +7,7 @@ use Rattle.scheduler.proofs.Verdicts.{after-ok, after-err, after-parts}
 use Rattle.backlog.specs.Backlogs.{cells-of}
 use Rattle.backlog.specs.Cells.{held-in}
 use Rattle.backlog.proofs.HeldCells.{held-taken}
-use Rattle.sp.specs.Makes.{sp-meaning, sp-choice, cell-of}
+use Rattle.sp.specs.States.{sp-meaning, sp-choice, cell-of}
 use Rattle.sp.proofs.Keeps.{first, sound, sound-same, sound-served}
 use Rattle.sp.proofs.calls.SpScheduler.serve.Needs as need
 

@@ -2,8 +2,8 @@
 use mathlib.Core.Path.{refl}
 use Rattle.scheduler.specs.Meaning.{holds-of, holds-any}
 use Rattle.sp.specs.Levels.{level, levels-exceeded}
-use Rattle.sp.specs.Worked.{TwoOfThree}
+use Rattle.sp.specs.Examples.{Third-refused}
 
-pub two-of-three : TwoOfThree
+pub third-refused : Third-refused
 unfolding level levels-exceeded holds-of holds-any
-two-of-three = (refl, refl, refl, refl)
+third-refused = (refl, refl, refl, refl)

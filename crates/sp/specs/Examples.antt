@@ -21,6 +21,6 @@ abbrev two : Meaning
 two = granted one 1 4 3
 
 -- SP grants two (4, 3) and refuses the third with 11: three cells may come at level 1 in a span of two slots
-abbrev pub TwoOfThree : Type 0
-TwoOfThree =
+abbrev pub Third-refused : Type 0
+Third-refused =
     (sp-grants fresh 0 4 3 ≡ None) × (sp-grants one 1 4 3 ≡ None) × (sp-grants two 2 4 3 ≡ Some LevelExceeded) × (causeNumber LevelExceeded ≡ 11)
