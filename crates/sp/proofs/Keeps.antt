@@ -7,19 +7,17 @@ use native.Mathlib.Omega.{arith}
 use lib.Dec.{ltb, leb}
 use lib.ListN.{length, getD, set, length-set}
 use Rattle.std.specs.shelf.Lists.{sumBy}
-use Rattle.std.specs.Options.{isSome}
 use Rattle.std.specs.declared.option.Option.{Option}
 use Rattle.std.specs.declared.option.Option.the-variants.{Some, None}
 use Rattle.std.proofs.shelf.Counted.{fill-by-all}
-use Rattle.std.proofs.shelf.Sums.{sumBy-push, getD-le-sumBy, sumBy-set}
-use Rattle.std.proofs.shelf.Tests.{ltb-false, le-ltb, cond-both}
+use Rattle.std.proofs.shelf.Sums.{sumBy-push, getD-le-sumBy}
+use Rattle.std.proofs.shelf.Tests.{le-ltb, cond-both}
 use Rattle.order.specs.First.{foremost}
-use Rattle.cells.specs.declared.faults.Cause.{Cause}
-use Rattle.cells.specs.declared.faults.Cause.the-variants.{PartyOutOfRange, PartyHasContract, SpacingOutOfRange, BoundOutOfRange, CellsPresent, TableExceeded, LevelExceeded}
+use Rattle.cells.specs.declared.faults.Cause.the-variants.{TableExceeded, LevelExceeded}
 use Rattle.scheduler.specs.declared.terms.Contract.{Contract}
 use Rattle.scheduler.specs.Laws.{InTime, Contracted, Past}
 use Rattle.scheduler.specs.declared.register.Register.{Register}
-use Rattle.scheduler.specs.Meaning.{Meaning, after, granted, refused-if, outside, common-verdict, agreed, stamped, put-rule, withdraw-rule, updated}
+use Rattle.scheduler.specs.Meaning.{Meaning, after, granted, refused-if, agreed, stamped, put-rule, withdraw-rule, updated}
 use Rattle.scheduler.specs.Tables.{contracts-of, spacing-or}
 use Rattle.scheduler.proofs.Registers.{party, terms}
 use Rattle.scheduler.proofs.Updates.{contracts-set}
@@ -28,20 +26,24 @@ use Rattle.backlog.specs.Backlogs.{cells-of}
 use Rattle.backlog.specs.Cells.{held-in, holds-in, Taken}
 use Rattle.backlog.proofs.HeldCells.{held-pushed}
 use Rattle.demand.specs.Cells.{due-before, Orderly}
-use Rattle.demand.specs.Totals.{each-of, total-of, places, exceeds-table}
+use Rattle.demand.specs.Totals.{total-of, places, exceeds-table}
 use Rattle.demand.specs.Counts.{ceil}
 use Rattle.demand.proofs.Counts.{ceil-self}
 use Rattle.demand.proofs.Cells.{before-no}
 use Rattle.demand.proofs.Keeps.{Puts, orderly-none, orderly-taken, orderly-withdrawn, orderly-put, put-new, room, contracted-of, past-of, in-time-of}
 use Rattle.demand.proofs.Spacing.{next-now}
 use Rattle.demand.proofs.Sums.{sum-zero}
-use Rattle.demand.proofs.Tables.{total-used, total-gone}
+use Rattle.demand.proofs.Tables.{total-used, total-gone, total-alone}
+use Rattle.demand.proofs.Consent.{consent-parts, consent-table}
+use Rattle.demand.proofs.Firsts.{foremost-none}
 use Rattle.sp.specs.declared.state.Sp.{Sp}
 use Rattle.sp.specs.Levels.{level, level-of, share, shares, levels-exceeded, sp-verdict, table-of, sp-judges, precedes}
 use Rattle.sp.specs.Ends.{low, has-end}
-use Rattle.sp.specs.Makes.{sp-meaning}
+use Rattle.sp.specs.States.{sp-meaning, sp-choice}
+use Rattle.sp.specs.Served.{GoesFirst}
 use Rattle.sp.proofs.Powers.{level-le}
-use Rattle.sp.proofs.Tested.{all-levels, alone}
+use Rattle.sp.proofs.Tested.{all-levels, none-exceeded}
+use Rattle.sp.proofs.Firsts.{goes-first}
 use Rattle.sp.proofs.Suffice.{starts, serves, puts, withdraws, in-time}
 
 -- what SP keeps of its slot, its contracts and its held cells
@@ -64,8 +66,7 @@ sound-none t cs xs e spaced fits tested = record { orderly = orderly-none cs xs 
 -- a slot ends, in which the first in the order, if any is held, is served
 pub sound-served : (t : ℕ) (cs : List (Option Contract)) (xs ys : List Held) (o : Option Held) → ((p : ℕ) → 1 ≤ spacing-or (getD cs p None)) → foremost precedes xs ≡ o → Taken xs o ys → Sound t cs xs → Sound (t + 1) cs ys
 sound-served t cs xs ys (Some x) spaced first taken v = record { orderly = orderly-taken cs xs ys (Some x) taken (v .orderly); tested = v .tested; ended = λ l. serves l cs xs ys x t spaced first taken (v .ended l) }
-sound-served t cs [] ys None spaced first taken v = sound-none (t + 1) cs ys taken spaced (v .orderly .fits) (v .tested)
-sound-served t cs (x ∷ xs) ys None spaced first taken v = absurd (let z : _≡_ {A = ℕ} 0 1 = cc in omega arith)
+sound-served t cs xs ys None spaced first taken v = sound-none (t + 1) cs ys (taken ∙ foremost-none precedes xs first) spaced (v .orderly .fits) (v .tested)
 
 -- a cell is put
 pub sound-put : (t p : ℕ) (cs : List (Option Contract)) (xs : List Held) (c : Contract) (x : Held) → ((q : ℕ) → 1 ≤ spacing-or (getD cs q None)) → Puts cs t p c x → Sound t cs xs → Sound t (set cs p (Some (stamped c t))) (xs ++ x ∷ [])
@@ -105,29 +106,16 @@ contracted s = contracted-of (s .register) (cells-of (s .backlog)) (sound s .ord
 pub past : (s : Sp) → Past (sp-meaning s)
 past s = past-of (s .register) (cells-of (s .backlog)) (sound s .orderly)
 
--- what a verdict that consents has passed
-passed : (b : Bool) (c : Cause) (v : Option Cause) → refused-if b c v ≡ None → (b ≡ false) × (v ≡ None)
-passed true c v e = absurd (let z : _≡_ {A = ℕ} 0 1 = cc in omega arith)
-passed false c v e = (refl, e)
+-- the cell that is served goes first
+pub first : (s : Sp) → GoesFirst (sp-meaning s) (sp-choice s)
+first s = goes-first (s .register .slot .0) (s .register .contracts) (cells-of (s .backlog)) (foremost precedes (cells-of (s .backlog))) (sound s .orderly) refl
 
 -- contracts that the test admits, with nothing held
 pub sound-granted : (r : Register) (xs : List Held) → xs ≡ [] → sp-verdict (r .contracts) ≡ None → Sound (r .slot .0) (r .contracts) xs
 sound-granted r xs e v =
-    let table = passed (exceeds-table (r .contracts)) _ _ v in
-    let levels = passed (levels-exceeded (r .contracts)) _ _ (table .1) in
-    sound-none (r .slot .0) (r .contracts) xs e (r .spaced) (ltb-false 128 (total-of places (r .contracts)) (table .0)) (all-levels (r .contracts) (r .spaced) (levels .0))
-
--- a grant that every make consents to comes with nothing held
-pub idle : (o : Option Contract) (busy : Bool) (p s d : ℕ) → common-verdict o busy p s d ≡ None → busy ≡ false
-idle o busy p s d e = last (ltb 15 p) (isSome o) (outside 1 1024 s) (outside 1 128 d) busy e
-  where
-    last : (f g h k b : Bool) → refused-if f PartyOutOfRange (refused-if g PartyHasContract (refused-if h SpacingOutOfRange (refused-if k BoundOutOfRange (refused-if b CellsPresent None)))) ≡ None → b ≡ false
-    last f g h k b e =
-        let a = passed f PartyOutOfRange _ e .1 in
-        let c = passed g PartyHasContract _ a .1 in
-        let d = passed h SpacingOutOfRange _ c .1 in
-        let l = passed k BoundOutOfRange _ d .1 in
-        passed b CellsPresent None l .0
+    let table = consent-table (r .contracts) (refused-if (levels-exceeded (r .contracts)) LevelExceeded None) v in
+    let levels = consent-parts (levels-exceeded (r .contracts)) LevelExceeded None (table .1) in
+    sound-none (r .slot .0) (r .contracts) xs e (r .spaced) (table .0) (all-levels (r .contracts) (r .spaced) (levels .0))
 
 -- the cell that a put holds
 pub puts-of : (s : Sp) (p : ℕ) (c : Contract) (x : Held) → contracts-of (s .register .contracts) p ≡ Some c → put-rule (contracts-of (s .register .contracts) p) (s .register .slot .0) ≡ None
@@ -176,30 +164,22 @@ withdrawal s p holds h = way (contracts-of cs p) refl holds h
 pub judged : (m : Meaning) (cs : List (Option Contract)) (p s d : ℕ) → length cs ≡ 16 → contracts-of cs ≡ granted m p s d .contracts → sp-judges m p s d ≡ sp-verdict cs
 judged m cs p s d whole e = ap sp-verdict (ap table-of (sym e) ∙ sym (fill-by-all (contracts-of cs) cs 16 None whole (λ k h. refl)))
 
--- a contract that stands alone asks for what it asks for
-alone-asks : (f : ℕ → ℕ → ℕ) (cs : List (Option Contract)) (p s d : ℕ) → ((q : ℕ) → getD cs q None ≡ None) → p < length cs → total-of f (set cs p (Some (agreed s d))) ≡ f s d
-alone-asks f cs p s d none within =
-    let k = sumBy-set (each-of f) cs p (Some (agreed s d)) None within in
-    let z = sum-zero (each-of f) cs None (λ i _. ap (each-of f) (none i)) in
-    let o = ap (each-of f) (none p) in
-    omega arith
-
--- so it is admitted
+-- a contract that stands alone is admitted
 pub admitted : (m : Meaning) (cs : List (Option Contract)) (p s d : ℕ) → m .contracts ≡ contracts-of cs → ((q : ℕ) → getD cs q None ≡ None) → length cs ≡ 16 → p ≤ 15 → 1 ≤ s → d ≤ 128 → sp-judges m p s d ≡ None
 admitted m cs p s d is none whole low h most =
     let new = set cs p (Some (agreed s d)) in
     let within : p < length cs = omega arith in
-    let few = alone-asks places cs p s d none within in
+    let few = total-alone places cs p s d none within in
     let self = ceil-self d s h in
     let table : exceeds-table new ≡ false = le-ltb 128 (total-of places new) (omega arith) in
-    let levels : levels-exceeded new ≡ false = alone new (λ l. one l within) in
+    let levels : levels-exceeded new ≡ false = none-exceeded new (λ l. one l within) in
     judged m new p s d (length-set cs p (Some (agreed s d)) ∙ whole) (contracts-set cs p (Some (agreed s d)) within ∙ ap (λ f. updated f p (Some (agreed s d))) (sym is))
     ∙ ap (λ b. refused-if b TableExceeded (refused-if (levels-exceeded new) LevelExceeded None)) table
     ∙ ap (λ b. refused-if b LevelExceeded None) levels
   where
     one : (l : ℕ) → p < length cs → shares (set cs p (Some (agreed s d))) l ≤ 2 ^ l
     one l within =
-        let is = alone-asks (share l (2 ^ l)) cs p s d none within in
+        let is = total-alone (share l (2 ^ l)) cs p s d none within in
         let self = ceil-self (2 ^ l) s h in
         let own : share l (2 ^ l) s d ≤ 2 ^ l = cond-both (leb (level d) l) (ceil (2 ^ l) s) 0 (λ n. n ≤ 2 ^ l) (λ _. self) (λ _. omega arith) in
         omega arith

@@ -1,4 +1,6 @@
 pub mod Powers
 pub mod Tested
+pub mod Firsts
 pub mod Suffice
 pub mod Keeps
+pub mod Examples

@@ -1,8 +1,8 @@
 -- What each call keeps of the slots that suffice for a level.
-use mathlib.Core.Path.{_≡_, refl, sym, ap, subst, _∙_}
+use mathlib.Core.Path.{_≡_, refl, ap, subst, _∙_}
 use mathlib.Core.Bool.{Bool, true, false, cond}
 use mathlib.Core.Logic.{inl, inr}
-use mathlib.Core.List.{List, [], _∷_}
+use mathlib.Core.List.{List}
 use Prim.Native.Nat.{ℕ, zero, suc, _+_, _-_, _*_, _^_, _≤_, _<_, max}
 use native.Mathlib.Omega.{arith}
 use lib.Dec.{leb, ltb, eqb}
@@ -11,10 +11,10 @@ use Rattle.std.specs.shelf.Lists.{sumBy}
 use Rattle.std.specs.declared.option.Option.{Option}
 use Rattle.std.specs.declared.option.Option.the-variants.{Some, None}
 use Rattle.std.proofs.shelf.Bits.{pow-pos}
-use Rattle.std.proofs.shelf.Sums.{sumBy-cons, sumBy-set}
+use Rattle.std.proofs.shelf.Sums.{sumBy-set}
 use Rattle.std.proofs.shelf.Tests.{both-ways, leb-true, le-leb, eqb-true, eq-eqb, le-ltb, cond-both, cases-lt}
 use Rattle.std.proofs.shelf.Ways.{tells}
-use Rattle.order.specs.First.{sooner, foremost}
+use Rattle.order.specs.First.{foremost}
 use Rattle.scheduler.specs.declared.terms.Contract.{Contract}
 use Rattle.scheduler.specs.Meaning.{some-below, stamped}
 use Rattle.scheduler.specs.Tables.{spacing-or}
@@ -26,6 +26,7 @@ use Rattle.demand.specs.Totals.{each-of}
 use Rattle.demand.specs.Cells.{next-slot}
 use Rattle.sp.specs.Levels.{level, level-of, share, shares, precedes}
 use Rattle.sp.specs.Ends.{arriving, low, stale, suffices, has-end}
+use Rattle.sp.proofs.Firsts.{lowest}
 use Rattle.demand.proofs.Counts.{jobs-least, jobs-mono, jobs-next, ceil-reach}
 use Rattle.demand.proofs.Spacing.{next-from, next-later}
 use Rattle.demand.proofs.Sums.{each-le, sum-le, sum-zero}
@@ -122,9 +123,6 @@ stale-low l b x = pick-le (leb (level-of x) l) _ 1 (cond-both (ltb (x .cell .eli
 sum-stale : (xs : List Held) (l b : ℕ) → sumBy (stale l b) xs ≤ sumBy (low l) xs
 sum-stale xs l b = each-le (stale l b) (low l) (stale-low l b) xs
 
-low-level : (l : ℕ) (x : Held) → 1 ≤ low l x → level-of x ≤ l
-low-level l x h = grind (arith, tells)
-
 level-low : (l : ℕ) (x : Held) → level-of x ≤ l → low l x ≡ 1
 level-low l x h = ap (λ b. cond b 1 0) (le-leb (level-of x) l h)
 
@@ -134,34 +132,6 @@ starts l cs xs t h z =
     let none = sum-none cs l t h in
     let old = sum-stale xs l (t + 0) in
     ends l cs xs t 0 (omega arith) (omega arith) (omega arith)
-
--- of two cells, the one that comes first is of the lower level
-before-level : (x y : Held) → precedes x y ≡ true → level-of x ≤ level-of y
-before-level x y h = grind (arith, tells)
-
-after-level : (x y : Held) → precedes x y ≡ false → level-of y ≤ level-of x
-after-level x y h = grind (arith, tells)
-
--- the first in the order is of the lowest level held
-pub lowest : (xs : List Held) (x : Held) (l : ℕ) → foremost precedes xs ≡ Some x → 1 ≤ sumBy (low l) xs → level-of x ≤ l
-lowest [] x l e h = absurd (omega arith)
-lowest (y ∷ ys) x l e h =
-    let is : sooner precedes y (foremost precedes ys) ≡ x = cc in
-    subst (λ z. level-of z ≤ l) is (way (foremost precedes ys) refl (lowest ys))
-  where
-    sum : low l y + sumBy (low l) ys ≡ sumBy (low l) (y ∷ ys)
-    sum = sym (sumBy-cons (low l) y ys)
-
-    way : (o : Option Held) → foremost precedes ys ≡ o → ((x : Held) (l : ℕ) → foremost precedes ys ≡ Some x → 1 ≤ sumBy (low l) ys → level-of x ≤ l) → level-of (sooner precedes y o) ≤ l
-    way None f r = low-level l y (let z = nothing ys f in omega (arith, sum))
-      where
-        nothing : (ys : List Held) → foremost precedes ys ≡ None → sumBy (low l) ys ≡ 0
-        nothing [] f = refl
-        nothing (y ∷ ys) f = absurd (let z : _≡_ {A = ℕ} 0 1 = cc in omega arith)
-    way (Some z) f r =
-        cond-both (precedes z y) z y (λ w. level-of w ≤ l)
-        (λ t. elim (cases-lt 0 (low l y)) [ inl a ↦ (let q = low-level l y a in let u = before-level z y t in omega arith) | inr a ↦ r z l f (omega (arith, sum)) ])
-        (λ t. elim (cases-lt 0 (low l y)) [ inl a ↦ low-level l y a | inr a ↦ (let q = r z l f (omega (arith, sum)) in let u = after-level z y t in omega arith) ])
 
 -- a slot passes in which the first in the order is served
 pub serves : (l : ℕ) (cs : List (Option Contract)) (xs ys : List Held) (x : Held) (t : ℕ) → Spacings cs → foremost precedes xs ≡ Some x → Taken xs (Some x) ys → has-end l cs xs t ≡ true → has-end l cs ys (t + 1) ≡ true

@@ -80,7 +80,7 @@ all-levels cs spaced e l = go l (cases-lt 0 (standing cs l))
         let is : shares cs (suc l) ≡ total-of (share (suc l) (2 ^ l + 2 ^ l)) cs = ap (λ n. total-of (share (suc l) n) cs) two in
         omega arith
 
--- a contract alone asks for no more than there is
-pub alone : (cs : List (Option Contract)) → ((l : ℕ) → shares cs l ≤ 2 ^ l) → levels-exceeded cs ≡ false
+-- and where none is, the test is passed
+pub none-exceeded : (cs : List (Option Contract)) → ((l : ℕ) → shares cs l ≤ 2 ^ l) → levels-exceeded cs ≡ false
 unfolding levels-exceeded
-alone cs h = below-false 8 (overfull cs) (λ l _. (cond-both (ltb 0 (standing cs l)) (ltb (2 ^ l) (shares cs l)) false (λ b. b ≡ false) (λ _. le-ltb (2 ^ l) (shares cs l) (h l)) (λ _. refl)))
+none-exceeded cs h = below-false 8 (overfull cs) (λ l _. (cond-both (ltb 0 (standing cs l)) (ltb (2 ^ l) (shares cs l)) false (λ b. b ≡ false) (λ _. le-ltb (2 ^ l) (shares cs l) (h l)) (λ _. refl)))

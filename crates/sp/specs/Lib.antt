@@ -1,3 +1,5 @@
 pub mod Levels
 pub mod Ends
-pub mod Makes
+pub mod Served
+pub mod States
+pub mod Examples

@@ -4,10 +4,11 @@ ghost use mathlib.Core.Path.{_≡_};
 ghost use mathlib.Core.List.{[]};
 ghost use lib.ListN.{replicate};
 ghost use Rattle.std.specs.declared.option.Option.the-variants.{None};
-ghost use Rattle.scheduler.specs.Meaning.{fresh, told};
+ghost use Rattle.scheduler.specs.Meaning.{fresh, told, after, stepped, serve-verdict};
 ghost use Rattle.backlog.specs.Backlogs.{cells-of};
 ghost use Rattle.sp.specs.Levels.{sp-verdict};
-ghost use Rattle.sp.specs.Makes.{sp-meaning, sp-test, sp-choice};
+ghost use Rattle.sp.specs.Served.{GoesFirst};
+ghost use Rattle.sp.specs.States.{sp-meaning, sp-test, sp-choice};
 use crate::levels::exceeds_levels;
 use crate::serving::ByLevel;
 use crate::serving::ByLevelOrder;
@@ -46,13 +47,25 @@ impl Sp {
         ensures contracts { λ r. ⌜ r .register .contracts ≡ replicate 16 None ⌝ }
         ensures cells { λ r. ⌜ cells-of (r .backlog) ≡ [] ⌝ }
     {
+        Sp::idle(Register::new())
+    }
+
+    // At the register's slot, with no contract and no cell.
+    fn idle(register: Register) -> Sp
+        requires { ⌜ register .contracts ≡ replicate 16 None ⌝ }
+        ensures register { λ r. ⌜ r .register ≡ register ⌝ }
+        ensures cells { λ r. ⌜ cells-of (r .backlog) ≡ [] ⌝ }
+    {
         Sp {
-            register: Register::new(),
+            register,
             backlog: Backlog::new(),
         }
     }
 }
 
+/// Its test is a function of what it means, so whoever knows its contracts knows its answer to a
+/// proposed one. Beside what the trait says, `serve` states that the cell it answers goes first
+/// of all held cells: by the lowest level, then the earliest eligible slot, then the lowest party.
 pub impl Scheduler for Sp as SpScheduler {
     ghost meaning = { sp-meaning };
 
@@ -97,7 +110,11 @@ pub impl Scheduler for Sp as SpScheduler {
         Ok(())
     }
 
-    fn serve(&mut self) -> Result<Option<Cell>, Fault> {
+    fn serve(&mut self) -> Result<Option<Cell>, Fault>
+        ensures answer { λ r. ⌜ r ≡ told (serve-verdict (sp-meaning (now (self .entry)))) 255 (sp-choice (now (self .entry))) ⌝ }
+        ensures becomes { λ _. ⌜ sp-meaning (now (self .exit)) ≡ after (serve-verdict (sp-meaning (now (self .entry)))) (sp-meaning (now (self .entry))) (stepped (sp-meaning (now (self .entry))) (sp-choice (now (self .entry)))) ⌝ }
+        ensures first { λ _. ⌜ GoesFirst (sp-meaning (now (self .entry))) (sp-choice (now (self .entry))) ⌝ }
+    {
         self.register.tick()?;
         match self.backlog.take_first(&ByLevel) {
             Some(held) => Ok(Some(held.cell)),
@@ -105,7 +122,11 @@ pub impl Scheduler for Sp as SpScheduler {
         }
     }
 
-    fn reset(&mut self) {
+    fn reset(&mut self)
+        ensures meaning { λ _. ⌜ sp-meaning (now (self .exit)) ≡ fresh ⌝ }
+        ensures contracts { λ _. ⌜ now (self .exit) .register .contracts ≡ replicate 16 None ⌝ }
+        ensures cells { λ _. ⌜ cells-of (now (self .exit) .backlog) ≡ [] ⌝ }
+    {
         *self = Sp::new();
     }
 }

@@ -1,8 +1,8 @@
 //! Levels, and the test of each level at which a contract stands.
 
 ghost use mathlib.Core.Path.{_≡_};
-ghost use Prim.Native.Nat.{_<_, _≤_};
-ghost use Rattle.sp.specs.Levels.{level, one-at, share, overfull, levels-exceeded};
+ghost use Prim.Native.Nat.{_^_, _<_, _≤_};
+ghost use Rattle.sp.specs.Levels.{level, one-at, share, shares, overfull, levels-exceeded};
 use cells::times::Span;
 use demand::terms::Terms;
 use demand::totals::Demand;
@@ -58,21 +58,30 @@ impl Demand for Share as ShareDemand {
     }
 }
 
+// The span of a level: two to the level slots.
+fn span_of(level: u32) -> Span
+    requires { ⌜ level < 8 ⌝ }
+    ensures { λ r. ⌜ r .0 ≡ 2 ^ level ⌝ }
+{
+    Span(1 << level)
+}
+
+// The cells that the contracts of the level or lower may put in the level's span.
+fn shares_at(register: &Register, level: u32) -> u64
+    requires { ⌜ level < 8 ⌝ }
+    ensures { λ r. ⌜ r ≡ shares (now (register .entry) .contracts) level ⌝ }
+{
+    let span = span_of(level);
+    total(register, &Share { level, span })
+}
+
 // Whether a contract stands at the level, and those of the level or lower may put more cells in
-// two to the level slots than can be sent in them.
+// the level's span than can be sent in it.
 fn is_overfull(register: &Register, level: u32) -> bool
     requires { ⌜ level < 8 ⌝ }
     ensures { λ r. ⌜ r ≡ overfull (now (register .entry) .contracts) level ⌝ }
 {
-    let span = 1 << level;
-    let shares = total(
-        register,
-        &Share {
-            level,
-            span: Span(span),
-        },
-    );
-    total(register, &Standing { level }) > 0 && shares > span as u64
+    total(register, &Standing { level }) > 0 && shares_at(register, level) > span_of(level).0 as u64
 }
 
 /// Whether some level at which a contract stands has more cells than slots.

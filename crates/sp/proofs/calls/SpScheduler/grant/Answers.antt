@@ -1,6 +1,5 @@
 use mathlib.Core.Path.{_≡_, refl, sym, ap, subst, _∙_}
-use mathlib.Core.Bool.{Bool, false, not}
-use mathlib.Core.List.{List, [], _∷_}
+use mathlib.Core.Bool.{Bool, not}
 use Prim.Native.Nat.{ℕ}
 use native.Mathlib.Omega.{arith}
 use borrow.Author.Needs.{needs}
@@ -9,18 +8,17 @@ use lib.ListN.{length}
 use Rattle.std.specs.declared.option.Option.the-variants.{None}
 use Rattle.std.specs.declared.result.Result.the-variants.{Err}
 use Rattle.std.proofs.shelf.Results.{err-from-errBy}
-use Rattle.std.proofs.shelf.Tests.{both-ways, lt-ltb}
 use Rattle.std.proofs.shelf.Ways.{tells}
 use Rattle.scheduler.specs.Meaning.{holds-any, common-verdict, grant-verdict}
 use Rattle.scheduler.specs.Tables.{Refuses}
 use Rattle.scheduler.proofs.Verdicts.{told-ok, told-err, after-ok, after-err, after-same, after-parts, or-else-err, or-else-ok}
 use Rattle.backlog.specs.Backlogs.{cells-of}
-use Rattle.backlog.specs.declared.held.Held.{Held}
 use Rattle.backlog.proofs.HeldCells.{busy-is}
 use Rattle.sp.specs.declared.state.Sp.{Sp}
 use Rattle.sp.specs.Levels.{sp-verdict}
-use Rattle.sp.specs.Makes.{sp-meaning, sp-test}
-use Rattle.sp.proofs.Keeps.{contracted, past, sound-granted, idle, judged}
+use Rattle.sp.specs.States.{sp-meaning, sp-test}
+use Rattle.sp.proofs.Keeps.{contracted, past, sound-granted, judged}
+use Rattle.demand.proofs.Consent.{consent-idle, none-held}
 use Rattle.sp.proofs.calls.SpScheduler.grant.Needs as need
 
 busy-not : (n : ℕ) → not (eqb n 0) ≡ ltb 0 n
@@ -29,11 +27,6 @@ busy-not n = grind (arith, tells)
 -- whether it is busy, as the meaning has it
 busy : (s : Sp) (b : Bool) → b ≡ eqb (length (cells-of (s .backlog))) 0 → not b ≡ holds-any (sp-meaning s)
 busy s b e = ap not e ∙ busy-not (length (cells-of (s .backlog))) ∙ sym (busy-is (sp-meaning s) (cells-of (s .backlog)) refl (contracted s) (past s))
-
--- where it is not, no cell is held
-empty : (xs : List Held) (b : Bool) → b ≡ eqb (length xs) 0 → not b ≡ false → xs ≡ []
-empty [] b e f = refl
-empty (x ∷ xs) b e f = absurd (let t = busy-not (length (x ∷ xs)) in both-ways (ltb 0 (length (x ∷ xs))) (sym t ∙ ap not (sym e) ∙ f) (lt-ltb 0 (length (x ∷ xs)) (omega arith)))
 
 pub returns-in-Break-more : need.returns-in-Break-more
 returns-in-Break-more c =
@@ -69,7 +62,8 @@ ghost-self c =
     let s = c .args .self .now in
     let new = c .in-Continue-more .ensures tt .0 in
     let own : sp-verdict (c .in-Continue-more .more .contracts) ≡ None = search needs in
-    let none = empty (cells-of (s .backlog)) (c .is-empty-busy .result) (c .is-empty-busy .ensures) (idle _ _ (c .args .party) (c .args .spacing .0) (c .args .bound .0) (new .consent)) in
+    let free = consent-idle _ _ (c .args .party) (c .args .spacing .0) (c .args .bound .0) (new .consent) in
+    let none = none-held (cells-of (s .backlog)) (sym (busy-not (length (cells-of (s .backlog)))) ∙ ap not (sym (c .is-empty-busy .ensures)) ∙ free) in
     let w = sound-granted (c .in-Continue-more .more) (cells-of (s .backlog)) none own in
     (w .orderly .single, (w .orderly .spaced, (w .orderly .agreed, (w .orderly .fits, (w .tested, (w .ended, tt))))))
 

@@ -6,7 +6,7 @@ use Rattle.scheduler.specs.Tables.{contracts-of}
 use Rattle.scheduler.proofs.Verdicts.{told-ok, after-ok, after-err, after-same, after-parts}
 use Rattle.backlog.specs.Backlogs.{cells-of}
 use Rattle.backlog.proofs.HeldCells.{pushed}
-use Rattle.sp.specs.Makes.{sp-meaning}
+use Rattle.sp.specs.States.{sp-meaning}
 use Rattle.sp.proofs.Keeps.{sound, sound-same, sound-put, puts-of, put-room, put-held}
 use Rattle.sp.proofs.calls.SpScheduler.put.Needs as need
 

@@ -7,8 +7,8 @@ use Rattle.scheduler.proofs.Verdicts.{after-ok, after-err, after-parts}
 use Rattle.backlog.specs.Backlogs.{cells-of}
 use Rattle.backlog.specs.Cells.{held-in}
 use Rattle.backlog.proofs.HeldCells.{held-taken}
-use Rattle.sp.specs.Makes.{sp-meaning, sp-choice, cell-of}
-use Rattle.sp.proofs.Keeps.{sound, sound-same, sound-served}
+use Rattle.sp.specs.States.{sp-meaning, sp-choice, cell-of}
+use Rattle.sp.proofs.Keeps.{first, sound, sound-same, sound-served}
 use Rattle.sp.proofs.calls.SpScheduler.serve.Needs as need
 
 pub ghost-self : need.ghost-self
@@ -40,5 +40,12 @@ returns-in-Some c =
     let held = held-taken xs (cells-of (c .take-first .last .self)) x (s .single) (c .in-Some .ensures tt .becomes) ∙ ap (without (held-in xs)) (sym pick) in
     record {
       answer = search needs;
+      first = first s;
       becomes = after-parts (serve-verdict m) m _ _ _ _ _ _ (c .tick .ensures .slot) (after-ok (serve-verdict m) _ _ _ ok (search needs)) (after-ok (serve-verdict m) _ _ _ ok held);
     }
+
+pub returns-in-Break-tick : need.returns-in-Break-tick
+returns-in-Break-tick c = record { answer = search needs; becomes = search needs; first = first (c .args .self .now) }
+
+pub returns-in-None : need.returns-in-None
+returns-in-None c = record { answer = search needs; becomes = search needs; first = first (c .args .self .now) }

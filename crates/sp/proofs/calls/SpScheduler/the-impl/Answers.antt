@@ -8,7 +8,7 @@ use Rattle.backlog.specs.declared.held.Held.{Held}
 use Rattle.backlog.proofs.HeldCells.{held-foremost}
 use Rattle.sp.specs.declared.state.Sp.{Sp}
 use Rattle.sp.specs.Levels.{precedes}
-use Rattle.sp.specs.Makes.{sp-meaning, cell-of}
+use Rattle.sp.specs.States.{sp-meaning, cell-of}
 use Rattle.sp.proofs.Keeps.{timely, contracted, past, admitted}
 use Rattle.sp.proofs.calls.SpScheduler.the-impl.Needs as need
 

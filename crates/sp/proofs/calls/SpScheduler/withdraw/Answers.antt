@@ -4,7 +4,7 @@ use Rattle.scheduler.specs.Meaning.{told, after, withdraw-rule, withdraw-verdic
 use Rattle.scheduler.proofs.Verdicts.{after-same, after-parts}
 use Rattle.backlog.specs.Backlogs.{cells-of}
 use Rattle.backlog.proofs.HeldCells.{holds-is}
-use Rattle.sp.specs.Makes.{sp-meaning}
+use Rattle.sp.specs.States.{sp-meaning}
 use Rattle.sp.proofs.Keeps.{sound-same, withdrawal, contracted, past}
 use Rattle.sp.proofs.calls.SpScheduler.withdraw.Needs as need
 

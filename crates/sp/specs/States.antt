@@ -16,7 +16,7 @@ use Rattle.sp.specs.Levels.{sp-judges, precedes}
 abbrev pub sp-meaning : Sp → Meaning
 sp-meaning x = meaning-of (x .register .slot .0) (x .register .contracts) (cells-of (x .backlog))
 
--- its answer to a proposed contract
+-- its answer to a proposed contract, a function of what it means
 abbrev pub sp-test : Sp → ℕ → ℕ → ℕ → Option Cause
 sp-test x = sp-judges (sp-meaning x)
 
