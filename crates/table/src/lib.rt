@@ -2,6 +2,8 @@
 //! has one owner or none.
 
 mod calls;
+mod keeping;
+pub mod labels;
 mod lookups;
 pub mod owners;
 mod search;
