@@ -7,6 +7,9 @@
 use cells::faults::Fault;
 use cells::times::Span;
 use makes::AnyMake;
+use makes::EdfScheduler;
+use makes::SpScheduler;
+use makes::TableScheduler;
 use makes::make;
 use scheduler::Scheduler;
 use std::error::AnyError;

@@ -5,11 +5,11 @@ ghost use Rattle.scheduler.specs.Meaning.{fresh};
 ghost use Rattle.switch.specs.Makes.{make-of};
 ghost use Rattle.makes.specs.Made.{numbered, meaning-of-any};
 use edf::state::Edf;
-use edf::calls::EdfScheduler;
-use sp::calls::SpScheduler;
+pub use edf::calls::EdfScheduler;
+pub use sp::calls::SpScheduler;
 use sp::state::Sp;
 use switch::state::Switch;
-use table::calls::TableScheduler;
+pub use table::calls::TableScheduler;
 use table::state::Table;
 
 /// A scheduler of any make.

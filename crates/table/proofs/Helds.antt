@@ -19,6 +19,10 @@ use Rattle.table.specs.Tables.{cell-under, cell-at, cell-of}
 pub none-some : {X : Type 0} (x : X) → _≡_ {A = Option X} None (Some x) → ⊥
 none-some x e = let z : _≡_ {A = ℕ} 0 1 = cc in omega arith
 
+pub is-none : (o : Option ℕ) → isSome o ≡ false → o ≡ None
+is-none None e = refl
+is-none (Some l) e = absurd (let z : _≡_ {A = ℕ} 0 1 = cc in omega arith)
+
 -- the cell held is the last, under the label kept
 pub held-parts : (o : Option Slot) (g : Option ℕ) (e l : ℕ) → held-of o g e ≡ Some l → (t : Slot) × (o ≡ Some t) × (g ≡ Some l) × (e ≡ t .0)
 held-parts None g e l h = absurd (none-some l h)

@@ -26,7 +26,7 @@ use Rattle.table.proofs.Periods.{period-fits}
 
 -- the label kept of each party
 abbrev pub label-of : Table → ℕ → Option ℕ
-label-of x p = getD (x .labels) p None
+label-of x p = getD (x .labels .parties) p None
 
 -- the contract of each party
 abbrev pub contract-of : Table → ℕ → Option Contract

@@ -1,3 +1,4 @@
+pub mod Examples
 pub mod Helds
 pub mod Keeps
 pub mod Laws

@@ -17,14 +17,12 @@ use Rattle.std.proofs.shelf.Tests.{eq-eqb, eqb-true, ne-eqb, lt-ltb, le-ltb, lt
 use Rattle.scheduler.specs.Meaning.{some-below}
 use Rattle.scheduler.proofs.Holds.{below-true, below-false, none-below}
 use Rattle.scheduler.proofs.Updates.{getD-set}
+use Rattle.table.proofs.Helds.{none-some, is-none}
 use Rattle.table.specs.Kept.{owner-in}
 use Rattle.table.specs.Turns.{turn-of, Found, free, or-here, least-below, least-free, is-party, assigned, released}
 
 split : (k n : ℕ) → k < suc n → (k < n) ⊎ (k ≡ n)
 split k n h = grind arith
-
-none-some : {X : Type 0} (x : X) → _≡_ {A = Option X} None (Some x) → ⊥
-none-some x e = let z : _≡_ {A = ℕ} 0 1 = cc in omega arith
 
 -- the least that passes
 pub least-none : (n : ℕ) (f : ℕ → Bool) → ((k : ℕ) → k < n → f k ≡ false) → least-below n f ≡ None
@@ -81,10 +79,6 @@ free-none owner p o h =
     way : (k : ℕ) (b : Bool) → turn-of p o k ≡ b → cond b (isSome (owner k)) false ≡ false
     way k true t = let q = turn-parts p o k t in h k (q .0) (q .1)
     way k false t = refl
-
-is-none : (o : Option ℕ) → isSome o ≡ false → o ≡ None
-is-none None e = refl
-is-none (Some l) e = absurd (both-ways true e refl)
 
 -- the turns of a free offset have no owner
 pub free-at : (owner : ℕ → Option ℕ) (p o k : ℕ) → free owner p o ≡ true → turn-of p o k ≡ true → owner k ≡ None

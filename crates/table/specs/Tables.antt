@@ -17,7 +17,7 @@ abbrev pub table-meaning : Table → Meaning
 table-meaning x = record {
   slot = x .register .slot .0;
   contracts = contracts-of (x .register .contracts);
-  held = λ p. held-of (last-of (contracts-of (x .register .contracts) p)) (getD (x .labels) p None);
+  held = λ p. held-of (last-of (contracts-of (x .register .contracts) p)) (getD (x .labels .parties) p None);
 }
 
 -- the owner of each turn

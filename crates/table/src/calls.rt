@@ -4,6 +4,7 @@ ghost use mathlib.Core.Path.{_≡_};
 ghost use Rattle.scheduler.specs.Meaning.{fresh, told, after, granted, grant-verdict, withdrawn, withdraw-verdict, filled, put-verdict, stepped, serve-verdict};
 ghost use Rattle.table.specs.Tables.{table-meaning, table-test, table-choice, owner-of};
 ghost use Rattle.table.specs.Turns.{period as period-of, least-free, assigned-at, released, no-owner};
+use crate::labels::Labels;
 use crate::owners::Owners;
 use crate::search::period;
 use crate::state::Table;
@@ -26,7 +27,7 @@ impl Table {
         Table {
             register: Register::new(),
             owners: Owners::new(),
-            labels: [None; 16],
+            labels: Labels::new(),
         }
     }
 }
@@ -82,7 +83,7 @@ pub impl Scheduler for Table as TableScheduler {
         ensures owners { λ _. ⌜ owner-of (now (self .exit)) ≡ owner-of (now (self .entry)) ⌝ }
     {
         self.register.put(party)?;
-        self.labels[party as usize] = Some(label);
+        self.labels.keep(party, label);
         Ok(())
     }
 
@@ -95,7 +96,7 @@ pub impl Scheduler for Table as TableScheduler {
         let choice = self.choice();
         self.register.tick()?;
         if let Some(cell) = choice {
-            self.labels[cell.party as usize] = None;
+            self.labels.clear(cell.party);
         }
         Ok(choice)
     }

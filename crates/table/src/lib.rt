@@ -2,6 +2,8 @@
 //! has one owner or none.
 
 pub mod calls;
+mod keeping;
+pub mod labels;
 mod lookups;
 pub mod owners;
 mod search;

@@ -14,7 +14,7 @@ impl Table {
     pub(crate) fn busy(&self) -> bool
         ensures { λ r. ⌜ r ≡ holds-any (table-meaning (now (self .entry))) ⌝ }
     {
-        for label in &self.labels {
+        for label in &self.labels.parties {
             if label.is_some() {
                 return true;
             }
@@ -29,7 +29,7 @@ impl Table {
         if party > LAST_PARTY {
             return false;
         }
-        self.labels[party as usize].is_some()
+        self.labels.parties[party as usize].is_some()
     }
 
     /// The held cell of the present turn's owner, if any.
@@ -39,7 +39,7 @@ impl Table {
     {
         let party = self.owners.owner(self.register.slot())?;
         let eligible = self.register.contract(party)?.last?;
-        let label = self.labels[party as usize]?;
+        let label = self.labels.parties[party as usize]?;
         Some(Cell {
             party,
             label,

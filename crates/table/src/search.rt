@@ -2,8 +2,10 @@
 
 ghost use mathlib.Core.Path.{_≡_};
 ghost use Prim.Native.Nat.{_≤_, min};
+ghost use lib.ListN.{replicate};
+ghost use Rattle.std.specs.declared.option.Option.the-variants.{None};
 ghost use Rattle.table.specs.Kept.{owner-in};
-ghost use Rattle.table.specs.Turns.{Greatest, greatest-power, turn, period as period-of, Found, assigned, released, no-owner};
+ghost use Rattle.table.specs.Turns.{Greatest, greatest-power, turn, period as period-of, Found, assigned, released};
 use crate::owners::Owners;
 use cells::times::Slot;
 use cells::times::Span;
@@ -35,7 +37,7 @@ pub(crate) fn period(spacing: Span, bound: Span) -> usize
 impl Owners {
     /// No turn has an owner.
     pub(crate) fn new() -> Owners
-        ensures { λ r. ⌜ owner-in (r .turns) ≡ no-owner ⌝ }
+        ensures { λ r. ⌜ r .turns ≡ replicate 128 None ⌝ }
     {
         Owners { turns: [None; 128] }
     }

@@ -73,11 +73,9 @@ ghost-self c =
     let e : d ≤ 128 = search needs in
     let none : f p ≡ None = search needs in
     let found : Found (owner-of x) (period s d) (Some o) = subst (λ (k : ℕ). Found (owner-of x) k (Some o)) (c .period-period .ensures .value) (c .in-Some .ensures tt) in
-    let owners = c .assign .ensures ∙ ap (λ (k : ℕ). assigned (owner-of x) k o p) (c .period-period .ensures .value) in (
-      x .whole,
-      kept-along _ n _ (updated f p (Some (agreed s d))) _ (assigned (owner-of x) (period s d) o p) _ (label-of x) (ap (λ t. t .0) (c .in-Continue-register .ensures tt .1)) (new .contracts) owners refl
-          (kept-granted n f (owner-of x) (label-of x) p s d o (period-fits s d a b e) (found .0) (free-none (owner-of x) (period s d) o (found .1)) none (kept x)),
-    )
+    let owners = c .assign .ensures ∙ ap (λ (k : ℕ). assigned (owner-of x) k o p) (c .period-period .ensures .value) in
+    kept-along _ n _ (updated f p (Some (agreed s d))) _ (assigned (owner-of x) (period s d) o p) _ (label-of x) (ap (λ t. t .0) (c .in-Continue-register .ensures tt .1)) (new .contracts) owners refl
+    (kept-granted n f (owner-of x) (label-of x) p s d o (period-fits s d a b e) (found .0) (free-none (owner-of x) (period s d) o (found .1)) none (kept x))
 
 pub returns : need.returns
 returns c =

@@ -4,7 +4,7 @@ use Prim.Native.Nat.{ℕ, _+_, _≤_, _<_}
 use native.Mathlib.Omega.{arith}
 use borrow.Author.Needs.{needs}
 use lib.Dec.{ltb}
-use lib.ListN.{length, getD, set, length-set}
+use lib.ListN.{length, getD}
 use Rattle.std.specs.declared.option.Option.{Option}
 use Rattle.std.specs.declared.option.Option.the-variants.{Some, None}
 use Rattle.std.proofs.shelf.Tests.{ltb-false}
@@ -53,10 +53,10 @@ ghost-self c =
     let n = x .register .slot .0 in
     let f = contract-of x in
     let same = c .put .ensures .contracts ∙ sym (after-err (put-rule (f p) n) p _ f f (updated f p (used (f p) n)) (c .in-Break-put .ensures tt .answer) refl) in
-    (x .whole, kept-along _ n _ f _ (owner-of x) _ (label-of x) (ap (λ t. t .0) (c .put .ensures .slot)) same refl refl (kept x))
+    kept-along _ n _ f _ (owner-of x) _ (label-of x) (ap (λ t. t .0) (c .put .ensures .slot)) same refl refl (kept x)
 
-pub index-self-party : need.index-self-party
-index-self-party c = omega (arith, party (c .args .self .now .register) (c .args .party) (c .in-Continue-put .field-0) (c .in-Continue-put .ensures tt .answer .0))
+pub keep-requires : need.keep-requires
+keep-requires c κs = omega (arith, party (c .args .self .now .register) (c .args .party) (c .in-Continue-put .field-0) (c .in-Continue-put .ensures tt .answer .0))
 
 pub ghost-self-2 : need.ghost-self-2
 ghost-self-2 c =
@@ -68,11 +68,12 @@ ghost-self-2 c =
     let t = c .in-Continue-put .field-0 in
     let is = c .in-Continue-put .ensures tt .answer .0 in
     let ok = c .in-Continue-put .ensures tt .answer .1 in
-    let whole = x .whole in
+    let whole = x .labels .whole in
     let low = party (x .register) p t is in
-    let within : p < length (x .labels) = omega arith in
+    let within : p < length (x .labels .parties) = omega arith in
     let cs = c .put .ensures .contracts ∙ ap (λ v. after v f (updated f p (used (f p) n))) ok ∙ ap (λ o. updated f p (used o n)) is in
-    (length-set (x .labels) p (Some l) ∙ x .whole, kept-along _ n _ (updated f p (Some (stamped t n))) _ (owner-of x) _ (updated (label-of x) p (Some l)) (ap (λ t. t .0) (c .put .ensures .slot)) cs refl (table-set (λ o. o) (x .labels) p (Some l) None within) (kept-put n f (owner-of x) (label-of x) p l t is (kept x)))
+    let gs = ap (λ ls q. getD ls q None) (c .keep .ensures) ∙ table-set (λ o. o) (x .labels .parties) p (Some l) None within in
+    kept-along _ n _ (updated f p (Some (stamped t n))) _ (owner-of x) _ (updated (label-of x) p (Some l)) (ap (λ t. t .0) (c .put .ensures .slot)) cs refl gs (kept-put n f (owner-of x) (label-of x) p l t is (kept x))
 
 pub returns : need.returns
 returns c =
@@ -85,13 +86,13 @@ returns c =
     let t = c .in-Continue-put .field-0 in
     let is = c .in-Continue-put .ensures tt .answer .0 in
     let ok : put-verdict (table-meaning x) p ≡ None = c .in-Continue-put .ensures tt .answer .1 in
-    let whole = x .whole in
+    let whole = x .labels .whole in
     let low = party (x .register) p t is in
-    let within : p < length (x .labels) = omega arith in
+    let within : p < length (x .labels .parties) = omega arith in
     let cs = c .put .ensures .contracts ∙ ap (λ v. after v f (updated f p (used (f p) n))) ok in
-    let gs = table-set (λ o. o) (x .labels) p (Some l) None within in
+    let gs = ap (λ ls q. getD ls q None) (c .keep .ensures) ∙ table-set (λ o. o) (x .labels .parties) p (Some l) None within in
     let held =
-    ap (λ h. held-by h (λ q. getD (set (x .labels) p (Some l)) q None)) (cs ∙ ap (λ o. updated f p (used o n)) is)
+    ap (λ h. held-by h (λ q. getD (c .keep .last .self .parties) q None)) (cs ∙ ap (λ o. updated f p (used o n)) is)
     ∙ ap (held-by (updated f p (Some (stamped t n)))) gs
     ∙ held-put f g p l (stamped t n) (record { 0 = n }) refl (free-to-put x p t is ok)
     in

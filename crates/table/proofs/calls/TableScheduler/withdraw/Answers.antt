@@ -16,14 +16,10 @@ use Rattle.scheduler.proofs.Verdicts.{told-ok, told-err, after-ok, after-err}
 use Rattle.table.specs.Kept.{last-of, held-of}
 use Rattle.table.specs.Tables.{table-meaning, owner-of}
 use Rattle.table.specs.Turns.{released}
-use Rattle.table.proofs.Helds.{held-by, held-kept, held-none}
+use Rattle.table.proofs.Helds.{is-none, held-by, held-kept, held-none}
 use Rattle.table.proofs.Keeps.{kept-along, kept-withdrawn}
 use Rattle.table.proofs.Laws.{kept, label-of, contract-of, holds-is}
 use Rattle.table.proofs.calls.TableScheduler.withdraw.Needs as need
-
-is-none : (o : Option ℕ) → isSome o ≡ false → o ≡ None
-is-none None e = refl
-is-none (Some l) e = absurd (let z : _≡_ {A = ℕ} 0 1 = cc in omega arith)
 
 -- a withdrawal that is told to go on finds no cell of the party
 not-held : (o : Option Contract) (b : Bool) (p : ℕ) → Ok (tt {0}) ≡ told (withdraw-rule o b) p (tt {0}) → b ≡ false
@@ -44,7 +40,7 @@ ghost-self c =
     let f = contract-of x in
     let v = withdraw-rule (f p) (c .holds-holds .result) in
     let same = c .withdraw .ensures .contracts ∙ sym (after-err v p _ f f (updated f p None) (sym (c .in-Break-withdraw .ensures tt .answer)) refl) in
-    (x .whole, kept-along _ n _ f _ (owner-of x) _ (label-of x) (ap (λ t. t .0) (c .withdraw .ensures .slot)) same refl refl (kept x))
+    kept-along _ n _ f _ (owner-of x) _ (label-of x) (ap (λ t. t .0) (c .withdraw .ensures .slot)) same refl refl (kept x)
 
 pub returns-in-Break-withdraw : need.returns-in-Break-withdraw
 returns-in-Break-withdraw c =
@@ -77,7 +73,7 @@ ghost-self-2 c =
     let ok = consent (f p) b p told-so in
     let none = is-none (label-of x p) (sym (holds-is x p) ∙ sym (c .holds-holds .ensures) ∙ not-held (f p) b p told-so) in
     let cs = c .withdraw .ensures .contracts ∙ ap (λ v. after v f (updated f p None)) ok in
-    (x .whole, kept-along _ n _ (updated f p None) _ (released (owner-of x) p) _ (label-of x) (ap (λ t. t .0) (c .withdraw .ensures .slot)) cs (c .release .ensures) refl (kept-withdrawn n f (owner-of x) (label-of x) p none (kept x)))
+    kept-along _ n _ (updated f p None) _ (released (owner-of x) p) _ (label-of x) (ap (λ t. t .0) (c .withdraw .ensures .slot)) cs (c .release .ensures) refl (kept-withdrawn n f (owner-of x) (label-of x) p none (kept x))
 
 pub returns : need.returns
 returns c =

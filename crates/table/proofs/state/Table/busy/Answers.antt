@@ -28,9 +28,9 @@ returns-then-is-some c =
 pub returns : need.returns
 returns c =
     let x = c .args .self .now in
-    let whole = x .whole in
+    let whole = x .labels .whole in
     let none : (p : ℕ) → label-of x p ≡ None = λ p. elim (cases-lt p 16) [
       | inl l ↦ c .loop-label .inv p (omega arith)
-      | inr l ↦ (let past : length (x .labels) ≤ p = omega arith in getD-past (x .labels) p None past)
+      | inr l ↦ (let past : length (x .labels .parties) ≤ p = omega arith in getD-past (x .labels .parties) p None past)
     ] in
     sym (busy-none x none)
