@@ -87,6 +87,12 @@ SERVE
 SERVE
 PUT 3 78
 WITHDRAW 3
+# a steady flow
+MAKE {k}
+GRANT 3 2 5
+FLOW 3 300000
+GRANT 4 7 9
+FLOW 4 100001
 # too many places
 MAKE {k}
 GRANT 0 1 100

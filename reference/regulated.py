@@ -14,6 +14,7 @@ or begin with # are passed over. Each command prints its own line and its answer
   PUT party label       OK, or NO cause
   SERVE                 CELL party label eligible due, or NONE, or NO cause
   IDLE n                n serves that must answer NONE: OK
+  FLOW party n          n slots, in each a put of the party and a serve: OK accepted served
   TURNS party           TABLE only: period and offset of the party's turns
 """
 
@@ -662,6 +663,16 @@ def obey(scheduler, word, args):
         for _ in range(int(args[0])):
             if scheduler.serve() is not None:
                 raise SystemExit('IDLE served a cell')
+    elif word == 'FLOW':
+        party, accepted, served = int(args[0]), 0, 0
+        for label in range(int(args[1])):
+            try:
+                scheduler.put(party, label)
+                accepted += 1
+            except Fault:
+                pass
+            served += scheduler.serve() is not None
+        return 'OK %d %d' % (accepted, served)
     elif word == 'TURNS':
         turns = [k for k, o in enumerate(scheduler.owner) if o == int(args[0])]
         return '%d %d' % (TURNS // len(turns), turns[0]) if turns else 'NONE'

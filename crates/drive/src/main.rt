@@ -1,8 +1,8 @@
 //! Drives the makes by a script, and prints what each command answered.
 //!
 //! A script has one command a line, its words parted by one blank: `MAKE number`,
-//! `GRANT party spacing bound`, `WITHDRAW party`, `PUT party label`, `SERVE`, and `IDLE n` for n
-//! slots in which nothing is served.
+//! `GRANT party spacing bound`, `WITHDRAW party`, `PUT party label`, `SERVE`, `IDLE n` for n slots
+//! in which nothing is served, and `FLOW party n` for n slots, in each a put of the party.
 
 use cells::faults::Fault;
 use cells::times::Span;
@@ -75,6 +75,22 @@ fn idle(any: &mut AnyMake, slots: u32) -> Result<(), AnyError> {
     Ok(())
 }
 
+/// Puts a cell of the party in each of so many slots, and says how many were accepted and served.
+fn flow(rt: &LibcRuntime, any: &mut AnyMake, party: u8, slots: u32) -> Result<(), AnyError> {
+    let mut accepted: u64 = 0;
+    let mut served: u64 = 0;
+    for label in 0..slots {
+        if any.put(party, label).is_ok() {
+            accepted = accepted.saturating_add(1);
+        }
+        if let Ok(Some(_)) = any.serve() {
+            served = served.saturating_add(1);
+        }
+    }
+    println!(rt, "FLOW\t{party}\t{slots}\tOK\t{accepted}\t{served}")?;
+    Ok(())
+}
+
 /// Carries out a command other than `MAKE`.
 fn obey(rt: &LibcRuntime, any: &mut AnyMake, line: &str) -> Result<(), AnyError> {
     let mut words = line.split(' ');
@@ -99,6 +115,9 @@ fn obey(rt: &LibcRuntime, any: &mut AnyMake, line: &str) -> Result<(), AnyError>
     if verb == "WITHDRAW" {
         print!(rt, "WITHDRAW\t{party}")?;
         return say(rt, any.withdraw(party));
+    }
+    if verb == "FLOW" {
+        return flow(rt, any, party, number(words.next())?);
     }
     if verb == "PUT" {
         let label = number(words.next())?;
