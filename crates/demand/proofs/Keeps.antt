@@ -5,6 +5,7 @@ use mathlib.Core.List.{List, [], _∷_, _++_}
 use mathlib.Core.Logic.{_⊎_, ⊎-elim}
 use Prim.Native.Nat.{ℕ, zero, suc, _+_, _≤_, _<_}
 use native.Mathlib.Omega.{arith}
+use lib.Dec.{ltb}
 use lib.ListN.{length, getD, set, length-append}
 use lib.Seq.{getD-set-same, getD-set-other}
 use Rattle.std.specs.declared.option.Option.{Option}
@@ -15,13 +16,13 @@ use Rattle.std.proofs.shelf.Tests.{cases-lt, cases-eq, cond-false}
 use Rattle.scheduler.specs.declared.register.Register.{Register}
 use Rattle.scheduler.specs.declared.terms.Contract.{Contract}
 use Rattle.scheduler.specs.Laws.{InTime, Contracted, Past, Since}
-use Rattle.scheduler.specs.Meaning.{stamped, due, put-rule}
+use Rattle.scheduler.specs.Meaning.{after, stamped, used, due, put-rule, holds-of, holds-any}
 use Rattle.scheduler.specs.Tables.{contracts-of, spacing-or, bound-or, last-or}
-use Rattle.scheduler.proofs.Registers.{parties, lasts, terms}
+use Rattle.scheduler.proofs.Registers.{parties, party, lasts, terms}
 use Rattle.scheduler.proofs.Updates.{each-set}
 use Rattle.backlog.specs.declared.held.Held.{Held}
 use Rattle.backlog.specs.Cells.{due-of, is-cell, held-in, holds-in, at, Taken}
-use Rattle.backlog.proofs.HeldCells.{held-none}
+use Rattle.backlog.proofs.HeldCells.{held-none, busy-is, holds-is}
 use Rattle.demand.specs.Cells.{meaning-of, next-slot, put-since, allowed-by, allowed, stray, due-before, Orderly}
 use Rattle.demand.specs.Totals.{total-of, places}
 use Rattle.demand.proofs.Sums.{each-le, each-le-add}
@@ -75,6 +76,27 @@ pub record Puts (cs : List (Option Contract)) (t p : ℕ) (c : Contract) (x : He
   pub party : x .cell .party ≡ p
   pub eligible : x .cell .eligible .0 ≡ t
   pub bound : x .bound .0 ≡ c .bound .0
+
+-- the same, from what a register answers to a put
+pub puts-of : (r : Register) (p : ℕ) (c : Contract) (x : Held) → contracts-of (r .contracts) p ≡ Some c → put-rule (contracts-of (r .contracts) p) (r .slot .0) ≡ None
+    → x .cell .party ≡ p → x .cell .eligible .0 ≡ r .slot .0 → x .bound .0 ≡ c .bound .0 → Puts (r .contracts) (r .slot .0) p c x
+puts-of r p c x has ok a b e =
+    let low = party r p c has in
+    let whole = r .whole in
+    record {
+      inside = omega arith;
+      granted = has;
+      consent = ap (λ o. put-rule o (r .slot .0)) (sym has) ∙ ok;
+      spacing = terms r p c has .spacing-least;
+      party = a;
+      eligible = b;
+      bound = e;
+    }
+
+-- and the table that it leaves
+pub puts-table : (cs : List (Option Contract)) (p t : ℕ) (c : Contract) → contracts-of cs p ≡ Some c → put-rule (contracts-of cs p) t ≡ None
+    → after (put-rule (contracts-of cs p) t) cs (set cs p (used (contracts-of cs p) t)) ≡ set cs p (Some (stamped c t))
+puts-table cs p t c has ok = ap (λ w. after w cs (set cs p (used (contracts-of cs p) t))) ok ∙ ap (λ o. set cs p (used o t)) has
 
 -- no cell of its party has its eligible slot
 pub put-new : (cs : List (Option Contract)) (xs : List Held) (t p : ℕ) (c : Contract) (x : Held) → Puts cs t p c x → Orderly cs xs → sumBy (at p t) xs ≡ 0
@@ -193,6 +215,14 @@ past-of r xs v = record { lasts = lasts r; cells = λ p e l c h k. cells p e l c
         let s = v .spaced p e in
         let w = ap (allowed e) k in
         allowed-since e (c .spacing .0) (c .last) (terms r p c k .spacing-least) (omega arith)
+
+-- whether a cell is held
+pub busy-of : (r : Register) (xs : List Held) → Orderly (r .contracts) xs → ltb 0 (length xs) ≡ holds-any (meaning-of (r .slot .0) (r .contracts) xs)
+busy-of r xs v = sym (busy-is (meaning-of (r .slot .0) (r .contracts) xs) xs refl (contracted-of r xs v) (past-of r xs v))
+
+-- whether one of the party is
+pub holds-by : (r : Register) (xs : List Held) (p : ℕ) → Orderly (r .contracts) xs → holds-in xs p ≡ holds-of (meaning-of (r .slot .0) (r .contracts) xs) p
+holds-by r xs p v = sym (holds-is (meaning-of (r .slot .0) (r .contracts) xs) xs p refl (contracted-of r xs v) (past-of r xs v))
 
 -- where none is due before the slot, none is late under its contract
 pub in-time-of : (r : Register) (xs : List Held) → Orderly (r .contracts) xs → sumBy (due-before (r .slot .0)) xs ≡ 0 → InTime (meaning-of (r .slot .0) (r .contracts) xs)

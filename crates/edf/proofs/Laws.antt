@@ -18,17 +18,17 @@ use Rattle.order.specs.First.{foremost}
 use Rattle.order.proofs.Foremost.{foremost-at}
 use Rattle.scheduler.specs.declared.terms.Contract.{Contract}
 use Rattle.scheduler.specs.Laws.{Contracted, Past, InTime, Chosen}
-use Rattle.scheduler.specs.Meaning.{due, agreed, refused-if, holds-any, after, withdraw-rule, stamped, used, put-rule}
+use Rattle.scheduler.specs.Meaning.{due, agreed, refused-if, after, withdraw-rule, stamped, used, put-rule}
 use Rattle.scheduler.specs.Tables.{contracts-of, bound-or}
-use Rattle.scheduler.proofs.Registers.{party, terms}
+use Rattle.scheduler.proofs.Registers.{party}
 use Rattle.scheduler.proofs.Holds.{below-false}
 use Rattle.backlog.specs.declared.held.Held.{Held}
 use Rattle.backlog.specs.Cells.{due-of, held-in, holds-in, at}
-use Rattle.backlog.proofs.HeldCells.{held-foremost, busy-is, pushed}
+use Rattle.backlog.proofs.HeldCells.{held-foremost, pushed}
 use Rattle.demand.specs.Cells.{due-before, Orderly}
 use Rattle.demand.specs.Totals.{each-of, total-of, places, exceeds-table}
 use Rattle.demand.proofs.Counts.{ceil-self, jobs-self}
-use Rattle.demand.proofs.Keeps.{Puts, put-new, room, held-place, bound-at, contracted-of, past-of, in-time-of}
+use Rattle.demand.proofs.Keeps.{puts-of, puts-table, put-new, room, held-place, bound-at, contracted-of, past-of, in-time-of}
 use Rattle.demand.proofs.Firsts.{foremost-none, foremost-least}
 use Rattle.demand.proofs.Sums.{sum-zero}
 use Rattle.edf.specs.Admission.{put-in, due-in, W, H, P, over-demand, busy-verdict, test-of}
@@ -69,10 +69,6 @@ chosen x (Some y) e = held-foremost earlier (held-of x) y (x .single) e
 -- the same of an equal slot and an equal table
 pub moved : (t u : ℕ) (cs ds : List (Option Contract)) (xs : List Held) → u ≡ t → ds ≡ cs → Sound t cs xs → Sound u ds xs
 moved t u cs ds xs a b v = subst (λ n. Sound n ds xs) (sym a) (subst (λ es. Sound t es xs) (sym b) v)
-
--- whether a cell is held
-pub busy : (x : Edf) → ltb 0 (length (held-of x)) ≡ holds-any (edf-meaning x)
-busy x = sym (busy-is (edf-meaning x) (held-of x) refl (contracted x) (past x))
 
 not-earlier : (x y : Held) → earlier y x ≡ false → (due-of x ≤ due-of y) × (due-of x ≡ due-of y → x .cell .party ≤ y .cell .party)
 not-earlier x y h = (grind (arith, tells), λ e. grind (arith, tells))
@@ -121,21 +117,13 @@ pushes x ys y p c is has ok a b e =
     let t = r .slot .0 in
     let cs = table-of x in
     let v = sound x in
-    let low = party r p c has in
-    let whole = r .whole in
-    let k : Puts cs t p c y = record {
-      inside = omega arith;
-      granted = has;
-      consent = ap (λ o. put-rule o t) (sym has) ∙ ok;
-      spacing = terms r p c has .spacing-least;
-      party = a;
-      eligible = b;
-      bound = e;
-    } in
+    let k = puts-of r p c y has ok a b e in
     let free = room cs (held-of x) t p c y k (v .orderly) (r .spaced) (r .past) (prompt t cs (held-of x) v) in
-    let new = sound-put cs (r .spaced) t (held-of x) p c y k v in
-    let same : after (put-rule (contracts-of cs p) t) cs (set cs p (used (contracts-of cs p) t)) ≡ set cs p (Some (stamped c t)) = ap (λ w. after w cs (set cs p (used (contracts-of cs p) t))) ok ∙ ap (λ o. set cs p (used o t)) has in
-    (free, put-new cs (held-of x) t p c y k (v .orderly), subst (λ ds. Sound t ds ys) (sym same) (subst (Sound t (set cs p (Some (stamped c t)))) (sym (pushed (held-of x) ys y is free)) new))
+    let new = sound-put cs (r .spaced) t (held-of x) p c y k v in (
+      free,
+      put-new cs (held-of x) t p c y k (v .orderly),
+      subst (λ ds. Sound t ds ys) (sym (puts-table cs p t c has ok)) (subst (Sound t (set cs p (Some (stamped c t)))) (sym (pushed (held-of x) ys y is free)) new),
+    )
 
 module _ (cs : List (Option Contract)) (none : (q : ℕ) → getD cs q None ≡ None) (p s d : ℕ) (pin : p < length cs) where
   abbrev table : List (Option Contract)

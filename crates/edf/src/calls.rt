@@ -41,8 +41,8 @@ impl Edf {
     fn trial(&self, party: u8, spacing: Span, bound: Span) -> Result<Register, Fault>
         ensures { λ r. ⌜ Cases r (λ t. Extends (table-of (now (self .entry))) (t .contracts) (ltb 0 (length (held-of (now (self .entry))))) party (spacing .0) (bound .0) × (t .slot ≡ now (self .entry) .register .slot)) (Refuses (common-verdict (contracts-of (table-of (now (self .entry))) party) (ltb 0 (length (held-of (now (self .entry))))) party (spacing .0) (bound .0)) party) ⌝ }
     {
-        self.register
-            .with(party, spacing, bound, self.backlog.len() > 0)
+        let busy = !self.backlog.is_empty();
+        self.register.with(party, spacing, bound, busy)
     }
 
     // A cell of the party, eligible in this slot.
@@ -108,6 +108,7 @@ pub impl Scheduler for Edf as EdfScheduler {
     {
         let cell = self.arrival(party, label);
         let contract = self.register.put(party)?;
+        // There is room: the contracts want no more places than there are.
         let _ = self.backlog.push(Held {
             cell,
             bound: contract.bound,

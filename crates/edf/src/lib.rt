@@ -3,5 +3,5 @@
 
 mod admission;
 pub mod calls;
-pub mod due;
+mod due;
 pub mod state;

@@ -8,12 +8,13 @@ use Rattle.std.proofs.shelf.Results.{err-from-errBy}
 use Rattle.scheduler.specs.Meaning.{holds-any, common-verdict, grant-verdict, or-else, told}
 use Rattle.scheduler.specs.Tables.{Refuses, contracts-of}
 use Rattle.scheduler.proofs.Verdicts.{told-ok, told-err, after-ok, after-err, after-same, after-parts, or-else-err, or-else-ok}
+use Rattle.demand.proofs.Keeps.{busy-of}
 use Rattle.demand.proofs.Consent.{consent-idle, none-held}
 use Rattle.edf.specs.States.{table-of, held-of, edf-meaning, edf-test}
 use Rattle.edf.specs.Admission.{test-of}
 use Rattle.edf.proofs.Busy.{consented}
 use Rattle.edf.proofs.Keeps.{sound-none}
-use Rattle.edf.proofs.Laws.{busy}
+use Rattle.edf.proofs.Laws.{sound}
 use Rattle.edf.proofs.calls.EdfScheduler.grant.Needs as need
 
 pub returns-in-Break-trial : need.returns-in-Break-trial
@@ -25,7 +26,7 @@ returns-in-Break-trial c =
     let d = c .args .bound .0 in
     let f = c .in-Break-trial .field-0 .0 in
     let q = err-from-errBy (c .from-residual .result) (c .from-residual .ensures .1) in
-    let refuses : Refuses (common-verdict (m .contracts p) (holds-any m) p n d) p f = subst (λ b. Refuses (common-verdict (m .contracts p) b p n d) p f) (busy s) (c .in-Break-trial .ensures tt) in
+    let refuses : Refuses (common-verdict (m .contracts p) (holds-any m) p n d) p f = subst (λ b. Refuses (common-verdict (m .contracts p) b p n d) p f) (busy-of (s .register) (held-of s) (sound s .orderly)) (c .in-Break-trial .ensures tt) in
     let all = or-else-err (common-verdict (m .contracts p) (holds-any m) p n d) (edf-test s p n d) p f refuses in
     record {
       answer = q .1 ∙ ap Err (q .2) ∙ told-err (grant-verdict m p n d (edf-test s p n d)) p tt f all;
@@ -43,7 +44,7 @@ returns-in-Break-admit c =
     let f = c .in-Break-admit .field-0 .0 in
     let q = err-from-errBy (c .from-residual-in-Break-admit .result) (c .from-residual-in-Break-admit .ensures .1) in
     let new = c .in-Continue-trial .ensures tt .0 in
-    let ok : common-verdict (m .contracts p) (holds-any m) p n d ≡ None = subst (λ b. common-verdict (m .contracts p) b p n d ≡ None) (busy s) (new .consent) in
+    let ok : common-verdict (m .contracts p) (holds-any m) p n d ≡ None = subst (λ b. common-verdict (m .contracts p) b p n d ≡ None) (busy-of (s .register) (held-of s) (sound s .orderly)) (new .consent) in
     let verdict : grant-verdict m p n d (edf-test s p n d) ≡ edf-test s p n d = or-else-ok _ _ ok in
     let refuses : Refuses (edf-test s p n d) p f = subst (λ cs. Refuses (test-of cs) p f) (new .table) (sym (c .in-Break-admit .ensures tt)) in
     let all : Refuses (grant-verdict m p n d (edf-test s p n d)) p f = subst (λ v. Refuses v p f) (sym verdict) refuses in
@@ -62,7 +63,7 @@ returns c =
     let d = c .args .bound .0 in
     let new = c .in-Continue-trial .ensures tt .0 in
     let v = grant-verdict m p n d (edf-test s p n d) in
-    let ok : common-verdict (m .contracts p) (holds-any m) p n d ≡ None = subst (λ b. common-verdict (m .contracts p) b p n d ≡ None) (busy s) (new .consent) in
+    let ok : common-verdict (m .contracts p) (holds-any m) p n d ≡ None = subst (λ b. common-verdict (m .contracts p) b p n d ≡ None) (busy-of (s .register) (held-of s) (sound s .orderly)) (new .consent) in
     let own : test-of (c .in-Continue-trial .trial .contracts) ≡ None = search needs in
     let all : v ≡ None = or-else-ok _ _ ok ∙ ap test-of (sym (new .table)) ∙ own in
     record {

@@ -3,10 +3,9 @@ use lib.ListN.{set}
 use Rattle.scheduler.specs.Meaning.{told, after, withdraw-rule, withdraw-verdict, updated, holds-of}
 use Rattle.scheduler.proofs.Verdicts.{after-same, after-parts}
 use Rattle.std.specs.declared.option.Option.the-variants.{Some, None}
-use Rattle.backlog.specs.Backlogs.{cells-of}
-use Rattle.backlog.proofs.HeldCells.{holds-is}
+use Rattle.demand.proofs.Keeps.{holds-by}
 use Rattle.edf.specs.States.{table-of, held-of, edf-meaning}
-use Rattle.edf.proofs.Laws.{contracted, past, moved, withdrawal}
+use Rattle.edf.proofs.Laws.{sound, moved, withdrawal}
 use Rattle.edf.proofs.calls.EdfScheduler.withdraw.Needs as need
 
 pub returns : need.returns
@@ -14,7 +13,7 @@ returns c =
     let s = c .args .self .now in
     let p = c .args .party in
     let m = edf-meaning s in
-    let h : c .holds-holds .result ≡ holds-of m p = c .holds-holds .ensures ∙ sym (holds-is m (cells-of (s .backlog)) p refl (contracted s) (past s)) in
+    let h : c .holds-holds .result ≡ holds-of m p = c .holds-holds .ensures ∙ holds-by (s .register) (held-of s) p (sound s .orderly) in
     record {
       answer = c .withdraw .ensures .answer ∙ ap (λ b. told (withdraw-rule (m .contracts p) b) p tt) h;
       becomes =
