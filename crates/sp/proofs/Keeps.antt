@@ -19,7 +19,7 @@ use Rattle.scheduler.specs.Laws.{InTime, Contracted, Past}
 use Rattle.scheduler.specs.declared.register.Register.{Register}
 use Rattle.scheduler.specs.Meaning.{Meaning, after, granted, refused-if, agreed, stamped, put-rule, withdraw-rule, updated}
 use Rattle.scheduler.specs.Tables.{contracts-of, spacing-or}
-use Rattle.scheduler.proofs.Registers.{party, terms}
+use Rattle.scheduler.proofs.Registers.{party}
 use Rattle.scheduler.proofs.Updates.{contracts-set}
 use Rattle.backlog.specs.declared.held.Held.{Held}
 use Rattle.backlog.specs.Backlogs.{cells-of}
@@ -30,7 +30,7 @@ use Rattle.demand.specs.Totals.{total-of, places, exceeds-table}
 use Rattle.demand.specs.Counts.{ceil}
 use Rattle.demand.proofs.Counts.{ceil-self}
 use Rattle.demand.proofs.Cells.{before-no}
-use Rattle.demand.proofs.Keeps.{Puts, orderly-none, orderly-taken, orderly-withdrawn, orderly-put, put-new, room, contracted-of, past-of, in-time-of}
+use Rattle.demand.proofs.Keeps.{Puts, puts-of, orderly-none, orderly-taken, orderly-withdrawn, orderly-put, put-new, room, contracted-of, past-of, in-time-of}
 use Rattle.demand.proofs.Spacing.{next-now}
 use Rattle.demand.proofs.Sums.{sum-zero}
 use Rattle.demand.proofs.Tables.{total-used, total-gone, total-alone}
@@ -117,20 +117,7 @@ sound-granted r xs e v =
     let levels = consent-parts (levels-exceeded (r .contracts)) LevelExceeded None (table .1) in
     sound-none (r .slot .0) (r .contracts) xs e (r .spaced) (table .0) (all-levels (r .contracts) (r .spaced) (levels .0))
 
--- the cell that a put holds
-pub puts-of : (s : Sp) (p : ℕ) (c : Contract) (x : Held) → contracts-of (s .register .contracts) p ≡ Some c → put-rule (contracts-of (s .register .contracts) p) (s .register .slot .0) ≡ None
-    → x .cell .party ≡ p → x .cell .eligible .0 ≡ s .register .slot .0 → x .bound .0 ≡ c .bound .0 → Puts (s .register .contracts) (s .register .slot .0) p c x
-puts-of s p c x e ok a b d = record {
-  inside = let h = party (s .register) p c e in let w = s .register .whole in omega arith;
-  granted = e;
-  consent = ap (λ o. put-rule o (s .register .slot .0)) (sym e) ∙ ok;
-  spacing = terms (s .register) p c e .spacing-least;
-  party = a;
-  eligible = b;
-  bound = d;
-}
-
--- it has a place
+-- a cell that is put has a place
 pub put-room : (s : Sp) (p : ℕ) (c : Contract) (x : Held) → Puts (s .register .contracts) (s .register .slot .0) p c x → length (cells-of (s .backlog)) < 128
 put-room s p c x k =
     let r = s .register in
@@ -143,7 +130,7 @@ pub put-held : (s : Sp) (p l : ℕ) (c : Contract) (ys : List Held) (x : Held) �
     → x .cell .party ≡ p → x .cell .eligible .0 ≡ s .register .slot .0 → x .bound .0 ≡ c .bound .0 → x .cell .label ≡ l
     → held-in ys ≡ updated (held-in (cells-of (s .backlog))) p (updated (held-in (cells-of (s .backlog)) p) (s .register .slot .0) (Some l))
 put-held s p l c ys x e ok is a b d f =
-    let k = puts-of s p c x e ok a b d in
+    let k = puts-of (s .register) p c x e ok a b d in
     let xs = cells-of (s .backlog) in
     held-pushed xs ys x is (put-room s p c x k) p (s .register .slot .0) l a b f (put-new (s .register .contracts) xs (s .register .slot .0) p c x k (sound s .orderly))
 

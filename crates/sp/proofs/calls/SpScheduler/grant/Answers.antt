@@ -13,11 +13,11 @@ use Rattle.scheduler.specs.Meaning.{holds-any, common-verdict, grant-verdict}
 use Rattle.scheduler.specs.Tables.{Refuses}
 use Rattle.scheduler.proofs.Verdicts.{told-ok, told-err, after-ok, after-err, after-same, after-parts, or-else-err, or-else-ok}
 use Rattle.backlog.specs.Backlogs.{cells-of}
-use Rattle.backlog.proofs.HeldCells.{busy-is}
 use Rattle.sp.specs.declared.state.Sp.{Sp}
 use Rattle.sp.specs.Levels.{sp-verdict}
 use Rattle.sp.specs.States.{sp-meaning, sp-test}
-use Rattle.sp.proofs.Keeps.{contracted, past, sound-granted, judged}
+use Rattle.sp.proofs.Keeps.{sound, sound-granted, judged}
+use Rattle.demand.proofs.Keeps.{busy-of}
 use Rattle.demand.proofs.Consent.{consent-idle, none-held}
 use Rattle.sp.proofs.calls.SpScheduler.grant.Needs as need
 
@@ -26,7 +26,7 @@ busy-not n = grind (arith, tells)
 
 -- whether it is busy, as the meaning has it
 busy : (s : Sp) (b : Bool) → b ≡ eqb (length (cells-of (s .backlog))) 0 → not b ≡ holds-any (sp-meaning s)
-busy s b e = ap not e ∙ busy-not (length (cells-of (s .backlog))) ∙ sym (busy-is (sp-meaning s) (cells-of (s .backlog)) refl (contracted s) (past s))
+busy s b e = ap not e ∙ busy-not (length (cells-of (s .backlog))) ∙ busy-of (s .register) (cells-of (s .backlog)) (sound s .orderly)
 
 pub returns-in-Break-more : need.returns-in-Break-more
 returns-in-Break-more c =

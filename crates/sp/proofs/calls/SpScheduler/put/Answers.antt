@@ -1,13 +1,12 @@
 use mathlib.Core.Path.{_≡_, refl, sym, ap, _∙_}
-use Rattle.std.specs.declared.option.Option.the-variants.{Some}
-use lib.ListN.{set}
-use Rattle.scheduler.specs.Meaning.{after, used, stamped, put-rule, put-verdict}
+use Rattle.scheduler.specs.Meaning.{put-rule, put-verdict}
 use Rattle.scheduler.specs.Tables.{contracts-of}
 use Rattle.scheduler.proofs.Verdicts.{told-ok, after-ok, after-err, after-same, after-parts}
 use Rattle.backlog.specs.Backlogs.{cells-of}
 use Rattle.backlog.proofs.HeldCells.{pushed}
 use Rattle.sp.specs.States.{sp-meaning}
-use Rattle.sp.proofs.Keeps.{sound, sound-same, sound-put, puts-of, put-room, put-held}
+use Rattle.sp.proofs.Keeps.{sound, sound-same, sound-put, put-room, put-held}
+use Rattle.demand.proofs.Keeps.{puts-of, puts-table}
 use Rattle.sp.proofs.calls.SpScheduler.put.Needs as need
 
 pub ghost-self : need.ghost-self
@@ -26,10 +25,9 @@ ghost-self-2 c =
     let n = r .slot .0 in
     let p = c .args .party in
     let is = c .in-Continue-contract .ensures tt .answer in
-    let k = puts-of s p (c .in-Continue-contract .contract) _ (is .0) (is .1) refl (ap (λ t. t .0) (c .slot-eligible .ensures)) refl in
+    let k = puts-of r p (c .in-Continue-contract .contract) _ (is .0) (is .1) refl (ap (λ t. t .0) (c .slot-eligible .ensures)) refl in
     let cells = pushed (cells-of (s .backlog)) _ _ (c .push .ensures .becomes) (put-room s p _ _ k) in
-    let table : c .put .last .self .contracts ≡ set (r .contracts) p (Some (stamped (c .in-Continue-contract .contract) n)) =
-    c .put .ensures .table ∙ ap (λ v. after v (r .contracts) (set (r .contracts) p (used (contracts-of (r .contracts) p) n))) (is .1) ∙ ap (λ o. set (r .contracts) p (used o n)) (is .0) in
+    let table = c .put .ensures .table ∙ puts-table (r .contracts) p n (c .in-Continue-contract .contract) (is .0) (is .1) in
     let w = sound-same _ _ _ _ _ _ (ap (λ t. t .0) (c .put .ensures .slot)) table cells (sound-put n p (r .contracts) (cells-of (s .backlog)) _ _ (r .spaced) k (sound s)) in
     (w .orderly .single, (w .orderly .spaced, (w .orderly .agreed, (w .orderly .fits, (w .tested, (w .ended, tt))))))
 

@@ -1,11 +1,11 @@
-use mathlib.Core.Path.{_≡_, refl, sym, ap, _∙_}
+use mathlib.Core.Path.{_≡_, refl, ap, _∙_}
 use Rattle.std.specs.declared.option.Option.the-variants.{None}
 use Rattle.scheduler.specs.Meaning.{told, after, withdraw-rule, withdraw-verdict, updated, holds-of}
 use Rattle.scheduler.proofs.Verdicts.{after-same, after-parts}
 use Rattle.backlog.specs.Backlogs.{cells-of}
-use Rattle.backlog.proofs.HeldCells.{holds-is}
+use Rattle.demand.proofs.Keeps.{holds-by}
 use Rattle.sp.specs.States.{sp-meaning}
-use Rattle.sp.proofs.Keeps.{sound-same, withdrawal, contracted, past}
+use Rattle.sp.proofs.Keeps.{sound, sound-same, withdrawal}
 use Rattle.sp.proofs.calls.SpScheduler.withdraw.Needs as need
 
 pub ghost-self : need.ghost-self
@@ -19,7 +19,7 @@ returns c =
     let s = c .args .self .now in
     let p = c .args .party in
     let m = sp-meaning s in
-    let h : c .holds-holds .result ≡ holds-of m p = c .holds-holds .ensures ∙ sym (holds-is m (cells-of (s .backlog)) p refl (contracted s) (past s)) in
+    let h : c .holds-holds .result ≡ holds-of m p = c .holds-holds .ensures ∙ holds-by (s .register) (cells-of (s .backlog)) p (sound s .orderly) in
     record {
       answer = c .withdraw .ensures .answer ∙ ap (λ b. told (withdraw-rule (m .contracts p) b) p tt) h;
       becomes =
