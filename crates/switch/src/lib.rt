@@ -1,5 +1,5 @@
 //! A scheduler that holds one of each make and behaves as the one numbered at its making.
 
-mod calls;
+pub mod calls;
 pub mod make;
 pub mod state;

@@ -1,7 +1,7 @@
 //! A scheduler that gives each contract turns of its own: slot k has turn k mod 128, and a turn
 //! has one owner or none.
 
-mod calls;
+pub mod calls;
 mod keeping;
 pub mod labels;
 mod lookups;
