@@ -1,7 +1,7 @@
 -- What a table of turns keeps through its calls.
 use mathlib.Core.Path.{_≡_, refl, sym, ap, subst, fun-ext, _∙_}
 use mathlib.Core.Bool.{Bool, true, false, cond}
-use mathlib.Core.Logic.{_⊎_, inl, inr}
+use mathlib.Core.Logic.{inl, inr}
 use Prim.Native.Nat.{ℕ, _+_, _≤_, _<_}
 use native.Mathlib.Omega.{arith}
 use lib.Dec.{eqb}
@@ -14,7 +14,7 @@ use Rattle.scheduler.specs.declared.terms.Contract.{Contract}
 use Rattle.scheduler.specs.Laws.{Terms}
 use Rattle.scheduler.specs.Meaning.{updated, agreed, stamped}
 use Rattle.table.specs.Kept.{owns, wait, period-or, last-of, turn-by, dated, tenant}
-use Rattle.table.specs.Turns.{turn, turn-of, free, period, is-party, assigned, released}
+use Rattle.table.specs.Turns.{turn-of, free, period, is-party, assigned, released}
 use Rattle.table.proofs.Helds.{none-some, unheld}
 use Rattle.table.proofs.Periods.{Fits, period-fits}
 use Rattle.table.proofs.Waits.{wait-most, wait-end, wait-same, wait-assigned, others-assigned, others-released}

@@ -1,16 +1,15 @@
 -- What holds of every table of turns.
 use mathlib.Core.Path.{_≡_, refl, sym, ap, subst, _∙_}
-use mathlib.Core.Bool.{Bool, true, false}
-use Prim.Native.Nat.{ℕ, _+_, _≤_, _<_}
+use mathlib.Core.Bool.{true, false}
+use Prim.Native.Nat.{ℕ, _+_, _≤_}
 use native.Mathlib.Omega.{arith}
 use lib.ListN.{getD}
 use Rattle.std.specs.Options.{isSome}
 use Rattle.std.specs.declared.option.Option.{Option}
 use Rattle.std.specs.declared.option.Option.the-variants.{Some, None}
 use Rattle.std.proofs.shelf.Tests.{both-ways}
-use Rattle.cells.specs.declared.times.Slot.{Slot}
 use Rattle.scheduler.specs.declared.terms.Contract.{Contract}
-use Rattle.scheduler.specs.Laws.{Terms, InTime, Contracted, Past, Since, Consents}
+use Rattle.scheduler.specs.Laws.{InTime, Contracted, Past, Since, Consents}
 use Rattle.scheduler.specs.Meaning.{holds-of, holds-any}
 use Rattle.scheduler.specs.Tables.{contracts-of}
 use Rattle.scheduler.proofs.Holds.{holds-of-none, holds-of-some, holds-any-none, holds-any-some, held-within}

@@ -1,25 +1,23 @@
 -- Free offsets, and turns that are taken and given back.
-use mathlib.Core.Path.{_≡_, refl, sym, ap, subst, fun-ext, _∙_}
+use mathlib.Core.Path.{_≡_, refl, sym, ap, fun-ext, _∙_}
 use mathlib.Core.Bool.{Bool, true, false, not, cond}
 use mathlib.Core.Logic.{_⊎_, inl, inr}
 use mathlib.Core.List.{List}
-use Prim.Native.Nat.{ℕ, zero, suc, _+_, _*_, _/_, _%_, _≤_, _<_}
+use Prim.Native.Nat.{ℕ, zero, suc, _+_, _/_, _%_, _≤_, _<_}
 use native.Mathlib.Nat.{div-add-mod', mul-le-mul-right, add-mul}
 use native.Mathlib.Omega.{arith}
-use borrow.Author.Needs.{needs}
 use lib.Dec.{eqb, ltb}
-use lib.ListN.{length, getD, set}
+use lib.ListN.{length}
 use Rattle.std.specs.Options.{isSome}
 use Rattle.std.specs.declared.option.Option.{Option}
 use Rattle.std.specs.declared.option.Option.the-variants.{Some, None}
 use Rattle.std.proofs.shelf.Lists.{getD-past}
-use Rattle.std.proofs.shelf.Tests.{eq-eqb, eqb-true, ne-eqb, lt-ltb, le-ltb, ltb-true, both-ways, not-true, cases-lt, cases-order, cases-eq, cases-bool}
+use Rattle.std.proofs.shelf.Tests.{eq-eqb, eqb-true, lt-ltb, le-ltb, ltb-true, both-ways, not-true, cases-lt, cases-order}
 use Rattle.scheduler.specs.Meaning.{some-below}
 use Rattle.scheduler.proofs.Holds.{below-true, below-false, none-below}
-use Rattle.scheduler.proofs.Updates.{getD-set}
-use Rattle.table.proofs.Helds.{none-some, is-none}
+use Rattle.table.proofs.Helds.{is-none}
 use Rattle.table.specs.Kept.{owner-in}
-use Rattle.table.specs.Turns.{turn-of, Found, free, or-here, least-below, least-free, is-party, assigned, released}
+use Rattle.table.specs.Turns.{turn-of, Found, free, or-here, least-below, least-free, is-party, released}
 
 split : (k n : ℕ) → k < suc n → (k < n) ⊎ (k ≡ n)
 split k n h = grind arith
@@ -40,18 +38,6 @@ least-some (suc n) f o l t h =
           ∙ ap (λ b. cond b (Some n) None) (ap f (sym s) ∙ t)
           ∙ ap Some (sym s)
     ]
-
-pub least-at : (n : ℕ) (f : ℕ → Bool) (o : ℕ) → least-below n f ≡ Some o → (o < n) × (f o ≡ true)
-least-at zero f o e = absurd (none-some o e)
-least-at (suc n) f o e = way (least-below n f) refl e (least-at n f o)
-  where
-    here : (b : Bool) → f n ≡ b → cond b (Some n) None ≡ Some o → (o < suc n) × (f o ≡ true)
-    here true t q = let s : n ≡ o = cc in (omega arith, ap f (sym s) ∙ t)
-    here false t q = absurd (none-some o q)
-
-    way : (x : Option ℕ) → least-below n f ≡ x → or-here x (f n) n ≡ Some o → (least-below n f ≡ Some o → (o < n) × (f o ≡ true)) → (o < suc n) × (f o ≡ true)
-    way None k q r = here (f n) refl q
-    way (Some y) k q r = let s = r (k ∙ q) in let l = s .0 in (omega arith, s .1)
 
 -- the turns of an offset
 pub turn-is : (p o k : ℕ) → k < 128 → k % p ≡ o → turn-of p o k ≡ true

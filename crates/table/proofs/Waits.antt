@@ -1,14 +1,13 @@
 -- How long a party waits for its turn.
 use mathlib.Core.Path.{_≡_, refl, sym, ap, subst, _∙_}
 use mathlib.Core.Bool.{Bool, true, false, cond}
-use mathlib.Core.Logic.{_⊎_, inl, inr}
-use Prim.Native.Nat.{ℕ, zero, suc, _+_, _%_, _≤_, _<_}
+use Prim.Native.Nat.{ℕ, zero, suc, _+_, _≤_, _<_}
 use native.Mathlib.Nat.{mod-lt}
 use native.Mathlib.Omega.{arith}
 use lib.Dec.{eqb}
 use Rattle.std.specs.declared.option.Option.{Option}
 use Rattle.std.specs.declared.option.Option.the-variants.{Some, None}
-use Rattle.std.proofs.shelf.Tests.{eq-eqb, eqb-true, ne-eqb, both-ways, cases-bool}
+use Rattle.std.proofs.shelf.Tests.{eq-eqb, eqb-true, ne-eqb}
 use Rattle.table.specs.Kept.{owns, wait-to, wait}
 use Rattle.table.specs.Turns.{turn, turn-of, free, is-party, assigned, released}
 use Rattle.table.proofs.Offsets.{turn-is, free-at}

@@ -1,7 +1,7 @@
 -- A worked example of the search. Contracts are written (spacing, bound).
 use mathlib.Core.Path.{_≡_}
 use Prim.Native.Nat.{ℕ}
-use Rattle.std.specs.declared.option.Option.the-variants.{Some, None}
+use Rattle.std.specs.declared.option.Option.the-variants.{Some}
 use Rattle.cells.specs.declared.faults.Cause.the-variants.{NoFreeOffset}
 use Rattle.table.specs.Turns.{period, least-free, offset-verdict, assigned, no-owner}
 

@@ -1,7 +1,7 @@
 -- Turns and who owns them. Slot k has turn k mod 128; a turn has one owner, a party, or none.
 use mathlib.Core.Path.{_≡_}
 use mathlib.Core.Bool.{Bool, true, false, not, cond}
-use Prim.Native.Nat.{ℕ, zero, suc, _+_, _%_, _^_, _≤_, _<_, min}
+use Prim.Native.Nat.{ℕ, zero, suc, _%_, _^_, _≤_, _<_, min}
 use lib.Dec.{eqb, leb, ltb}
 use Rattle.std.specs.Options.{isSome}
 use Rattle.std.specs.declared.option.Option.{Option}

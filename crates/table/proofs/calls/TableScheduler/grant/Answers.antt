@@ -1,13 +1,12 @@
 use mathlib.Core.Path.{_≡_, refl, sym, ap, subst, _∙_}
 use Prim.Native.Nat.{ℕ, _≤_}
 use borrow.Author.Needs.{needs}
-use Rattle.std.specs.declared.option.Option.{Option}
 use Rattle.std.specs.declared.option.Option.the-variants.{Some, None}
-use Rattle.std.specs.declared.result.Result.the-variants.{Ok, Err}
+use Rattle.std.specs.declared.result.Result.the-variants.{Err}
 use Rattle.std.proofs.shelf.Results.{err-from-errBy}
 use Rattle.cells.specs.declared.faults.Cause.the-variants.{NoFreeOffset}
 use Rattle.scheduler.specs.Meaning.{holds-any, common-verdict, grant-verdict, granted, told, after, updated, agreed}
-use Rattle.scheduler.specs.Tables.{Refuses, contracts-of}
+use Rattle.scheduler.specs.Tables.{Refuses}
 use Rattle.scheduler.proofs.Updates.{same-meaning}
 use Rattle.scheduler.proofs.Verdicts.{told-ok, told-err, after-ok, after-err, or-else-err, or-else-ok}
 use Rattle.table.specs.Kept.{last-of, held-of}

@@ -2,26 +2,23 @@ use mathlib.Core.Path.{_≡_, refl, sym, ap, subst, _∙_}
 use mathlib.Core.Bool.{Bool, true, false, cond}
 use Prim.Native.Nat.{ℕ, _+_, _≤_, _<_}
 use native.Mathlib.Omega.{arith}
-use borrow.Author.Needs.{needs}
 use lib.Dec.{ltb}
 use lib.ListN.{length, getD}
-use Rattle.std.specs.declared.option.Option.{Option}
 use Rattle.std.specs.declared.option.Option.the-variants.{Some, None}
 use Rattle.std.proofs.shelf.Tests.{ltb-false}
 use Rattle.cells.specs.declared.faults.Cause.the-variants.{TooSoon}
 use Rattle.cells.specs.declared.times.Slot.{Slot}
 use Rattle.scheduler.specs.declared.terms.Contract.{Contract}
 use Rattle.scheduler.specs.Meaning.{put-rule, put-verdict, after, updated, used, stamped}
-use Rattle.scheduler.specs.Tables.{contracts-of}
 use Rattle.scheduler.proofs.Registers.{party, terms}
 use Rattle.scheduler.proofs.Updates.{table-set, same-meaning}
 use Rattle.scheduler.proofs.Verdicts.{told-ok, after-ok, after-err}
 use Rattle.table.specs.declared.state.Table.{Table}
-use Rattle.table.specs.Kept.{wait, last-of, period-or, owner-in}
+use Rattle.table.specs.Kept.{wait, last-of, period-or}
 use Rattle.table.specs.Tables.{table-meaning, owner-of}
 use Rattle.table.specs.Turns.{period}
 use Rattle.table.proofs.Helds.{held-by, held-put}
-use Rattle.table.proofs.Keeps.{Kept, kept-along, kept-put, idle}
+use Rattle.table.proofs.Keeps.{kept-along, kept-put, idle}
 use Rattle.table.proofs.Laws.{kept, label-of, contract-of}
 use Rattle.table.proofs.Periods.{period-fits}
 use Rattle.table.proofs.calls.TableScheduler.put.Needs as need

@@ -1,5 +1,5 @@
-use mathlib.Core.Path.{_≡_, refl, sym, ap, subst, _∙_}
-use Prim.Native.Nat.{ℕ, _+_, _<_}
+use mathlib.Core.Path.{_≡_, refl, sym, ap, _∙_}
+use Prim.Native.Nat.{_+_, _<_}
 use native.Mathlib.Omega.{arith}
 use borrow.Author.Needs.{needs}
 use lib.ListN.{length, getD}
@@ -8,7 +8,7 @@ use Rattle.scheduler.specs.Meaning.{serve-verdict, after, updated, without}
 use Rattle.scheduler.specs.Tables.{contracts-of}
 use Rattle.scheduler.proofs.Registers.{terms}
 use Rattle.scheduler.proofs.Updates.{table-set, same-meaning}
-use Rattle.scheduler.proofs.Verdicts.{told-ok, after-ok}
+use Rattle.scheduler.proofs.Verdicts.{after-ok}
 use Rattle.table.specs.Tables.{table-meaning, table-choice, owner-of, cell-of}
 use Rattle.table.specs.Turns.{turn}
 use Rattle.table.proofs.Helds.{held-by, held-served, cell-parts, cell-none}

@@ -2,15 +2,13 @@ use mathlib.Core.Path.{_≡_, refl, sym, ap, subst, _∙_}
 use mathlib.Core.Bool.{Bool, true, false}
 use Prim.Native.Nat.{ℕ}
 use native.Mathlib.Omega.{arith}
-use borrow.Author.Needs.{needs}
-use Rattle.std.specs.Options.{isSome}
 use Rattle.std.specs.declared.option.Option.{Option}
 use Rattle.std.specs.declared.option.Option.the-variants.{Some, None}
 use Rattle.std.specs.declared.result.Result.the-variants.{Ok, Err}
 use Rattle.std.proofs.shelf.Results.{err-from-errBy}
 use Rattle.scheduler.specs.declared.terms.Contract.{Contract}
-use Rattle.scheduler.specs.Meaning.{told, after, updated, withdraw-rule, withdraw-verdict, withdrawn, holds-of}
-use Rattle.scheduler.specs.Tables.{contracts-of, Refuses}
+use Rattle.scheduler.specs.Meaning.{told, after, updated, withdraw-rule, withdraw-verdict, holds-of}
+use Rattle.scheduler.specs.Tables.{Refuses}
 use Rattle.scheduler.proofs.Updates.{same-meaning}
 use Rattle.scheduler.proofs.Verdicts.{told-ok, told-err, after-ok, after-err}
 use Rattle.table.specs.Kept.{last-of, held-of}

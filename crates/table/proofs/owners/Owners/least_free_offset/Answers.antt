@@ -1,4 +1,4 @@
-use mathlib.Core.Path.{_≡_, _∙_, sym}
+use mathlib.Core.Path.{_∙_, sym}
 use Prim.Native.Nat.{_<_}
 use native.Mathlib.Nat.{mod-eq-of-lt, mod-le, add-mod-right}
 use native.Mathlib.Omega.{arith}
