@@ -32,8 +32,3 @@ module _ {X : Type 0} where
   pub sum-zero : (f : X → ℕ) (xs : List X) (d : X) → ((i : ℕ) → i < length xs → f (getD xs i d) ≡ 0) → sumBy f xs ≡ 0
   sum-zero f [] d h = refl
   sum-zero f (x ∷ xs) d h = omega (arith, sumBy-cons f x xs, h 0 (omega arith), sum-zero f xs d (λ i l. h (suc i) (omega arith)))
-
-  -- where each counts as one, the sum is the length
-  pub sum-ones : (xs : List X) → sumBy (λ x. 1) xs ≡ length xs
-  sum-ones [] = refl
-  sum-ones (x ∷ xs) = omega (arith, sumBy-cons (λ (y : X). 1) x xs, sum-ones xs)
