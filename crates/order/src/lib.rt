@@ -33,9 +33,16 @@ pub fn first<T, O: Order<T>>(order: &O, items: &[T]) -> Option<usize>
     }
     let mut best = 0;
     for i in 1..items.len() {
-        if order.before(&items[i], &items[best]) {
+        if beats(order, &items[i], &items[best]) {
             best = i;
         }
     }
     Some(best)
+}
+
+/// Whether a record takes the place of the best before it: it has to come before that.
+fn beats<T, O: Order<T>>(order: &O, x: &T, best: &T) -> bool
+    ensures { λ r. ⌜ r ≡ ahead (now (order .entry)) (now (x .entry)) (now (best .entry)) ⌝ }
+{
+    order.before(x, best)
 }
