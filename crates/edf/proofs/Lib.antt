@@ -1,5 +1,3 @@
 pub mod Busy
 pub mod Keeps
 pub mod Laws
-pub mod Examples
-pub mod Idle

@@ -1,4 +1,3 @@
 pub mod Admission
 pub mod Coming
 pub mod States
-pub mod Examples

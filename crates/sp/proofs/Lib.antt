@@ -3,4 +3,3 @@ pub mod Tested
 pub mod Firsts
 pub mod Suffice
 pub mod Keeps
-pub mod Examples

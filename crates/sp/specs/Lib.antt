@@ -2,4 +2,3 @@ pub mod Levels
 pub mod Ends
 pub mod Served
 pub mod States
-pub mod Examples

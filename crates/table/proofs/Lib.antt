@@ -1,4 +1,3 @@
-pub mod Examples
 pub mod Helds
 pub mod Keeps
 pub mod Laws

@@ -1,4 +1,3 @@
-pub mod Examples
 pub mod Kept
 pub mod Tables
 pub mod Turns
