@@ -1,5 +1,6 @@
 //! The words that every layer shares: slots and spans, the limits of the regulated path,
 //! and faults with their causes and layers.
+#![tactic(auto)]
 
 pub mod faults;
 pub mod limits;

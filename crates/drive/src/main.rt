@@ -3,6 +3,7 @@
 //! A script has one command a line, its words parted by one blank: `MAKE number`,
 //! `GRANT party spacing bound`, `WITHDRAW party`, `PUT party label`, `SERVE`, `IDLE n` for n slots
 //! in which nothing is served, and `FLOW party n` for n slots, in each a put of the party.
+#![tactic(auto)]
 
 use anyhow::anyhow;
 use cells::faults::Fault;

@@ -1,5 +1,6 @@
 //! The worked examples of the rules, as one theorem about the definitions that the contracts of
 //! the makes and of the header cite.
+#![tactic(auto)]
 
 ghost use Rattle.std.specs.Prelude.{◌≡◌};
 ghost use Rattle.examples.specs.Worked.{WorkedExamples};

@@ -1,4 +1,5 @@
 //! The six-byte header: what each send writes and each arrival reads.
+#![tactic(auto)]
 
 ghost use Rattle.std.specs.Prelude.{◌≡◌, IfOk, Ok, OnOk};
 ghost use Rattle.header.specs.Headers.{header_fault, bytes_of, header_of, Writes};

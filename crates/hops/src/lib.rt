@@ -1,4 +1,5 @@
 //! A hop before any path is again a path.
+#![tactic(auto)]
 
 pub mod calls;
 pub mod crossing;

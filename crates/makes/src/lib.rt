@@ -1,4 +1,5 @@
 //! The switch over the makes that there are.
+#![tactic(auto)]
 
 ghost use Rattle.std.specs.Prelude.{◌≡◌};
 ghost use Rattle.scheduler.specs.Meaning.{fresh};

@@ -1,4 +1,5 @@
 //! The first record in an order.
+#![tactic(auto)]
 
 ghost use Rattle.std.specs.Prelude.{◌≡◌, Bool, true, false, length, MatchOption};
 ghost use Rattle.order.specs.First.{First};

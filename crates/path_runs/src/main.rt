@@ -4,6 +4,7 @@
 //! path, from the front on; `GRANT party spacing lead` and eight bounds; `WITHDRAW party`; `ENTER`
 //! with the bytes of a header and then the arrival slot; `TICK`; `RUN n` for n ticks, up to the first
 //! that is refused; `HOLDS party`; and `RESET`, which makes the path fresh.
+#![tactic(auto)]
 
 use anyhow::anyhow;
 use cells::faults::Fault;

@@ -1,4 +1,5 @@
 //! A path: hops one after another, and the end that delivers. What it means, and what its calls do to that.
+#![tactic(auto)]
 
 ghost use Rattle.std.specs.Prelude.{◌≡◌, ℕ, ◌+◌, ◌≤◌, List, length, Option};
 ghost use Rattle.header.specs.Headers.{header_of};

@@ -1,4 +1,5 @@
 //! Reads a plan and a trace and prints what they say, or their first fault.
+#![tactic(auto)]
 
 use anyhow::anyhow;
 use std::alloc::Global;

@@ -1,4 +1,5 @@
 //! What is said of a plan and a trace.
+#![tactic(auto)]
 
 ghost use Rattle.std.specs.Prelude.{◌≡◌, ◌^◌, ◌<◌, ◌≤◌, ◌++◌, length, IfOk, Ok, string_bytes, OnOk};
 ghost use Rattle.texts.specs.Plans.{layout_of};

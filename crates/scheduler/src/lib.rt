@@ -1,5 +1,6 @@
 //! A scheduler of one link: what it means, what its calls do to that, and what every make of
 //! scheduler shares.
+#![tactic(auto)]
 
 ghost use Rattle.std.specs.Prelude.{◌≡◌, ℕ, Option};
 ghost use Rattle.cells.specs.declared.faults.Cause.{Cause};

@@ -1,4 +1,5 @@
 //! A scheduler that holds one of each make and behaves as the one numbered at its making.
+#![tactic(auto)]
 
 pub mod calls;
 pub mod make;

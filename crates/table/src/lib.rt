@@ -1,5 +1,6 @@
 //! A scheduler that gives each contract turns of its own: slot k has turn k mod 128, and a turn
 //! has one owner or none.
+#![tactic(auto)]
 
 pub mod calls;
 mod keeping;

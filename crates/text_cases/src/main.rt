@@ -1,4 +1,5 @@
 //! Reads a table of plans and traces, good and bad, and prints for each what they say.
+#![tactic(auto)]
 
 use std::fs;
 

@@ -1,5 +1,6 @@
 //! Plans and traces: the text forms, and readers that answer for every text exactly what the
 //! forms define.
+#![tactic(auto)]
 
 mod fields;
 pub mod forms;
