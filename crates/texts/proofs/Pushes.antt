@@ -1,7 +1,7 @@
 -- What holds of each element of a list, one element more at its end.
 use Rattle.std.proofs.Common.{◌≡◌, ℕ, zero, suc, ◌+◌, ◌<◌, ◌≤◌, Bool, true, false, cond, not, ◌&&◌, ◌||◌, eqb, leb, List, [], ◌∷◌, ◌++◌, length, get_or, drop, sym, refl, ap, ◌∙◌, subst, arith}
 use Rattle.std.proofs.lemmas.List.{at_drop_more}
-use Rattle.std.proofs.lemmas.Bool.{and_parts, and_from, or_parts, or_from, not_true, not_from_false, ne_eqb, eqb-false}
+use Rattle.std.proofs.lemmas.Bool.{and_parts, and_from, or_parts, or_from, not-true, not_from_false, ne_eqb, eqb-false}
 use Rattle.texts.specs.Every.{every}
 use Rattle.texts.specs.Parties.{listed, apart}
 use Rattle.texts.specs.declared.forms.PlanParty.{PlanParty}
@@ -40,4 +40,4 @@ apart_push [] p h k = refl
 apart_push (q ∷ qs) p h k =
     let u = or_parts (eqb q.number p.number) (listed p.number qs) k in
     let a = and_parts (not (listed q.number qs)) (apart qs) h in
-    and_from _ _ (not_from_false _ (unlisted_push q.number qs p (not_true _ a.0) (eqb_other q.number p.number u.0))) (apart_push qs p a.1 u.1)
+    and_from _ _ (not_from_false _ (unlisted_push q.number qs p (not-true _ a.0) (eqb_other q.number p.number u.0))) (apart_push qs p a.1 u.1)

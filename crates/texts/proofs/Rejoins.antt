@@ -1,6 +1,6 @@
 -- Pieces put together again, and the numbers among them.
 use Rattle.std.proofs.Common.{◌≡◌, ℕ, ◌<◌, ◌≤◌, Bool, true, false, cond, not, ◌&&◌, ◌||◌, eqb, leb, ◌⊎◌, List, [], ◌∷◌, ◌++◌, length, get_or, drop, Some, None, decimal, Option, sym, refl, ap, ◌∙◌, subst, inl, inr, append_assoc, append-nil, arith}
-use Rattle.std.proofs.lemmas.Bool.{and_parts, or_cases, not_true, leb-true, eqb-true, eqb-false, cond-true, cond-false, eq-eqb, true≢false}
+use Rattle.std.proofs.lemmas.Bool.{and_parts, or_cases, not-true, leb-true, eqb-true, eqb-false, cond-true, cond-false, eq-eqb, true≢false}
 use Rattle.std.specs.Str.Parse.{AllDigits, digits_value}
 use Rattle.std.specs.Str.{all_ascii_digits}
 use Rattle.cells.specs.Faults.{field}
@@ -45,7 +45,7 @@ parted b xs w ps e = ap (λ l. drop 1 l) (sym (led-pieces b xs) ∙ ap (led b) e
 bare_from : (ds : List ℕ) → (not (eqb (get_or ds 0 0) 48) || leb (length ds) 1) ≡ true → Bare ds
 bare_from ds h z =
     elim (or_cases (not (eqb (get_or ds 0 0) 48)) (leb (length ds) 1) h) [
-      | inl e ↦ absurd (eqb-false (get_or ds 0 0) 48 (not_true (eqb (get_or ds 0 0) 48) e) z)
+      | inl e ↦ absurd (eqb-false (get_or ds 0 0) 48 (not-true (eqb (get_or ds 0 0) 48) e) z)
       | inr e ↦ leb-true (length ds) 1 e
     ]
 

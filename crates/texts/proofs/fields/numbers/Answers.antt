@@ -20,8 +20,8 @@ pub loop-rest-preserved : goal.loop-rest-preserved
 loop-rest-preserved c =
     let here = ap (λ o. behind 9 (option_map (λ r. r.now) o)) c.in-Some.is ∙ c.cut.ensures.parts in
     c.loop-rest.invariant ∙ ap (λ fs. onto (vec_items c.loop-rest.all) (numbers_of fs)) here ∙ one_more (vec_items c.loop-rest.all) c.in-Some-number.n c.cut.result.0.now (behind 9 (option_map (λ r. r.now) c.cut.result.1)) c.in-Some-number.ensures.value
-    ∙ ap (λ xs. onto xs (numbers_of (behind 9 (option_map (λ r. r.now) c.cut.result.1)))) (sym c.in-ok-push.ensures.items)
+    ∙ ap (λ xs. onto xs (numbers_of (behind 9 (option_map (λ r. r.now) c.cut.result.1)))) (sym c.in_ok-push.ensures.items)
 
 pub returns : goal.returns
 returns c =
-    sym (c.loop-rest.invariant ∙ ap (λ o. onto (vec_items c.loop-rest.all) (numbers_of (behind 9 (option_map (λ r. r.now) o)))) c.in-default.is ∙ all_read (vec_items c.loop-rest.all))
+    sym (c.loop-rest.invariant ∙ ap (λ o. onto (vec_items c.loop-rest.all) (numbers_of (behind 9 (option_map (λ r. r.now) o)))) c.in_default.is ∙ all_read (vec_items c.loop-rest.all))

@@ -16,7 +16,7 @@ returns-then-bound-gt-TERM-MAX c =
 pub loop-bound-preserved : goal.loop-bound-preserved
 loop-bound-preserved c =
     let x = get_or c.args.bounds.now c.loop-bound.bound-index 0 in
-    c.loop-bound.invariant ∙ every_more (λ d. leb d 65535) c.args.bounds.now c.loop-bound.bound-index 0 _ c.loop-bound-test.true (le-leb x 65535 c.if-bound-gt-TERM-MAX.false)
+    c.loop-bound.invariant ∙ every_more (λ d. leb d 65535) c.args.bounds.now c.loop-bound.bound-index 0 _ c.loop-bound-test.true (le-leb x 65535 c.if-bound-gt-TERM_MAX.false)
 
 pub returns : goal.returns
 returns c =

@@ -23,6 +23,6 @@ pub returns : goal.returns
 returns c =
     let xs = c.args.all.now in
     let two : 2 ≤ length xs = search rules in
-    let e = party_made c.args.line c.args.hops xs two c.if-bounds-hops.false c.if-number-gt-PARTY-MAX.false c.if-spacing-gt-TERM-MAX.false (sym c.if-not-all-terms.ensures) in
+    let e = party_made c.args.line c.args.hops xs two c.if-bounds-hops.false c.if-number-gt-PARTY_MAX.false c.if-spacing-gt-TERM_MAX.false (sym c.if-not-all_terms.ensures) in
     let b = c.eight.ensures in
-    record { told = cc; sound = le-leb (get_or xs 0 0) 15 c.if-number-gt-PARTY-MAX.false }
+    record { told = cc; sound = le-leb (get_or xs 0 0) 15 c.if-number-gt-PARTY_MAX.false }

@@ -7,4 +7,4 @@ use Rattle.texts.proofs.read_plan.read_plan.Goals as goal
 pub returns : goal.returns
 returns c =
     let bs = c.args.text.now in
-    record { told = c.plan-of.ensures; written = told_made layout_of (λ m. plan_written m ≡ bs) (plan_of bs) _ c.plan-of.ensures (plan_written_lem bs) }
+    record { told = c.plan_of.ensures; written = told_made layout_of (λ m. plan_written m ≡ bs) (plan_of bs) _ c.plan_of.ensures (plan_written_lem bs) }

@@ -9,4 +9,4 @@ pub returns : goal.returns
 returns c =
     let bs = c.args.text.now in
     let ps = vec_items c.args.plan.now.parties in
-    record { told = c.trace-of.ensures; written = told_made trace_lines (λ ls. trace_written ls ≡ bs) (trace_of ps bs) _ c.trace-of.ensures (trace_written_lem ps bs) }
+    record { told = c.trace_of.ensures; written = told_made trace_lines (λ ls. trace_written ls ≡ bs) (trace_of ps bs) _ c.trace_of.ensures (trace_written_lem ps bs) }

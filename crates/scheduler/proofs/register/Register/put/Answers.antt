@@ -5,7 +5,7 @@ use Rattle.scheduler.specs.Tables.{contracts_of, spacing_or, bound_or, last_or}
 use Rattle.scheduler.proofs.Updates.{each_set, contracts_set}
 use Rattle.scheduler.proofs.Verdicts.{after_ok}
 use Rattle.scheduler.proofs.register.Register.put.Goals as goal
-use Rattle.scheduler.proofs.register.Register.put.Goals.{in-Some-last+else-lt, in-default-last}
+use Rattle.scheduler.proofs.register.Register.put.Goals.{in-Some-last+else-lt, in_default-last}
 
 pub invariant-of-self : goal.invariant-of-self
 invariant-of-self c =
@@ -45,7 +45,7 @@ returns-in-Some-contracts c =
     let was = c.in-Some-contracts.is in
     let here : contracts_of cs p ≡ Some c.in-Some.contract = search rules in
     let ok : put_rule (contracts_of cs p) n ≡ None =
-    elim c.match-contract-2.branch [ in-Some-last+else-lt w ↦ search rules | in-default-last w ↦ search rules ] in
+    elim c.match-contract-2.branch [ in-Some-last+else-lt w ↦ search rules | in_default-last w ↦ search rules ] in
     let is : Some c.stamp.new.self ≡ used (contracts_of cs p) n = ap Some c.stamp.ensures ∙ ap (λ o. used o n) (sym was) in
     record {
       answer = (here, ok);
