@@ -24,7 +24,7 @@ pub trait Order<T> {
 /// The place of the first record in the order, the lowest among equals, or none where there is
 /// no record.
 pub fn first<T, O: Order<T>>(order: &O, items: &[T]) -> Option<usize>
-    ensures { MatchOption result (length items.now ≡ 0) (First (ahead order.now) items.now (length items.now)) }
+    ensures { MatchOption result (length items.now ≡ 0) (First (O.ahead order.now) items.now (length items.now)) }
 {
     if items.is_empty() {
         return None;
@@ -40,7 +40,7 @@ pub fn first<T, O: Order<T>>(order: &O, items: &[T]) -> Option<usize>
 
 /// Whether a record takes the place of the best before it: it has to come before that.
 fn beats<T, O: Order<T>>(order: &O, x: &T, best: &T) -> bool
-    ensures { result ≡ ahead order.now x.now best.now }
+    ensures { result ≡ O.ahead order.now x.now best.now }
 {
     order.before(x, best)
 }

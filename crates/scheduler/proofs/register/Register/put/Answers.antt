@@ -7,8 +7,8 @@ use Rattle.scheduler.proofs.Verdicts.{after_ok}
 use Rattle.scheduler.proofs.register.Register.put.Goals as goal
 use Rattle.scheduler.proofs.register.Register.put.Goals.{in-Some-last+else-lt, in_default-last}
 
-pub invariant-of-self : goal.invariant-of-self
-invariant-of-self c =
+pub invariant_of-self : goal.invariant_of-self
+invariant_of-self c =
     let s = c.args.self.now in
     let cs = s.contracts in
     let p = c.args.party in
@@ -18,22 +18,15 @@ invariant-of-self c =
     let was = c.in-Some-contracts.is in
     let is : Some (stamped c.in-Some-contracts.used s.slot.0) ≡ v = ap Some (sym c.stamp.ensures) in
     let kept = λ (Q : Option Contract → Type 0) (h : (q : ℕ) → Q (get_or cs q None)) (n : Q (Some (stamped c.in-Some-contracts.used s.slot.0))).
-    each_set (λ q o. Q o) cs p v None within (subst Q is n) h in (
-      s.slots,
-      (
-        whole,
-        (
-          kept (λ o. 1 ≤ spacing_or o) s.spaced (subst (λ o. 1 ≤ spacing_or o) was (s.spaced p)),
-          (
-            kept (λ o. spacing_or o ≤ 1024) s.near (subst (λ o. spacing_or o ≤ 1024) was (s.near p)),
-            (
-              kept (λ o. 1 ≤ bound_or o) s.bounded (subst (λ o. 1 ≤ bound_or o) was (s.bounded p)),
-              (kept (λ o. bound_or o ≤ 128) s.prompt (subst (λ o. bound_or o ≤ 128) was (s.prompt p)), (kept (λ o. last_or s.slot.0 o ≤ s.slot.0) s.past (omega arith), tt)),
-            ),
-          ),
-        ),
-      ),
-    )
+    each_set (λ q o. Q o) cs p v None within (subst Q is n) h in record {
+      slots = s.slots;
+      whole = whole;
+      spaced = kept (λ o. 1 ≤ spacing_or o) s.spaced (subst (λ o. 1 ≤ spacing_or o) was (s.spaced p));
+      near = kept (λ o. spacing_or o ≤ 1024) s.near (subst (λ o. spacing_or o ≤ 1024) was (s.near p));
+      bounded = kept (λ o. 1 ≤ bound_or o) s.bounded (subst (λ o. 1 ≤ bound_or o) was (s.bounded p));
+      prompt = kept (λ o. bound_or o ≤ 128) s.prompt (subst (λ o. bound_or o ≤ 128) was (s.prompt p));
+      past = kept (λ o. last_or s.slot.0 o ≤ s.slot.0) s.past (omega arith);
+    }
 
 pub returns-in-Some-contracts : goal.returns-in-Some-contracts
 returns-in-Some-contracts c =
