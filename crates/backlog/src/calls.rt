@@ -48,7 +48,7 @@ impl Backlog {
 
     /// Takes the first cell in the order out, and puts the cell at the last place into its place.
     pub fn take_first<O: Order<Held>>(&mut self, order: &O) -> Option<Held>
-        ensures answer { result ≡ foremost (ahead order.now) (cells_of self.old) }
+        ensures answer { result ≡ foremost (O.ahead order.now) (cells_of self.old) }
         ensures becomes { Taken (cells_of self.old) result (cells_of self.new) }
     {
         let place = self.foremost_place(order)?;
@@ -57,7 +57,7 @@ impl Backlog {
 
     // The place of the first cell in the order.
     fn foremost_place<O: Order<Held>>(&self, order: &O) -> Option<usize>
-        ensures { MatchOption result (cells_of self.now ≡ []) (First (ahead order.now) (cells_of self.now) (length (cells_of self.now))) }
+        ensures { MatchOption result (cells_of self.now ≡ []) (First (O.ahead order.now) (cells_of self.now) (length (cells_of self.now))) }
     {
         first(order, &self.places[0..self.count])
     }
