@@ -38,7 +38,7 @@ fn share<D: Demand>(demand: &D, contract: Option<Contract>) -> u32
     requires near { spacing_or contract ≤ 1024 }
     requires bounded { 1 ≤ bound_or contract }
     requires prompt { bound_or contract ≤ 128 }
-    ensures { result ≡ each_of (asks demand.now) contract }
+    ensures { result ≡ each_of (D.asks demand.now) contract }
 {
     match contract {
         Some(granted) => demand.of(&Terms {
@@ -51,7 +51,7 @@ fn share<D: Demand>(demand: &D, contract: Option<Contract>) -> u32
 
 /// What all contracts of a register ask for together.
 pub fn total<D: Demand>(register: &Register, demand: &D) -> u64
-    ensures { result ≡ total_of (asks demand.now) register.now.contracts }
+    ensures { result ≡ total_of (D.asks demand.now) register.now.contracts }
 {
     let contracts = register.contracts();
     let mut sum = 0;

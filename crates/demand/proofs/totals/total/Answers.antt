@@ -8,8 +8,8 @@ pub share-requires : goal.share-requires
 share-requires g c = let r = c.args.register.now in let i = c.loop-i.i in
     let a = r.spaced i in let b = r.near i in let d = r.bounded i in let e = r.prompt i in search rules
 
-pub overflow-add-sum : goal.overflow-add-sum
-overflow-add-sum g c = omega arith
+pub overflow_add-sum : goal.overflow_add-sum
+overflow_add-sum g c = omega arith
 
 pub loop-i-preserved : goal.loop-i-preserved
 loop-i-preserved g c =
