@@ -2,7 +2,7 @@
 
 ghost use Rattle.std.specs.Prelude.{◌≡◌, ◌≤◌, IfSome, nat_le, nat_lt};
 ghost use Rattle.scheduler.specs.Meaning.{told};
-ghost use Rattle.edf.specs.Admission.{put_in, due_in, W, H as demand-in, P, over_demand, test_of};
+ghost use Rattle.edf.specs.Admission.{put_in, due_in, work_in, demand_in, busy_period, over_demand, test_of};
 
 use cells::faults::{Cause, Fault};
 use cells::times::Span;
@@ -43,7 +43,7 @@ impl Demand for DueIn {
 
 /// Whether no more cells can be put in so many slots than there are slots.
 fn keeps_up(register: &Register, slots: u32) -> bool
-    ensures { result ≡ nat_le (W register.now.contracts slots) slots }
+    ensures { result ≡ nat_le (work_in register.now.contracts slots) slots }
 {
     total(register, &PutIn(Span(slots))) <= slots as u64
 }
@@ -51,7 +51,7 @@ fn keeps_up(register: &Register, slots: u32) -> bool
 /// The busy period: the least number of slots, from 1 to 1,024, in which no more cells can be put
 /// than there are slots.
 fn busy_period(register: &Register) -> Option<u32>
-    ensures value { result ≡ P register.now.contracts }
+    ensures value { result ≡ busy_period register.now.contracts }
     ensures within { IfSome result (λ p. p ≤ 1024) }
 {
     for slots in 1..=PERIOD_MAX {
@@ -64,7 +64,7 @@ fn busy_period(register: &Register) -> Option<u32>
 
 /// Whether more cells can come and be due in so many slots than there are slots.
 fn falls_behind(register: &Register, slots: u32) -> bool
-    ensures { result ≡ nat_lt slots (demand-in register.now.contracts slots) }
+    ensures { result ≡ nat_lt slots (demand_in register.now.contracts slots) }
 {
     total(register, &DueIn(Span(slots))) > slots as u64
 }

@@ -3,9 +3,9 @@ use Rattle.edf.specs.Admission.{work_in, busy_period}
 use Rattle.edf.specs.Busy.{least_found, least_none, one_more}
 use Rattle.edf.proofs.admission.busy_period.Goals as goal
 
-pub returns-then-keeps-up : goal.returns-then-keeps-up
+pub returns-then-keeps_up : goal.returns-then-keeps_up
 unfolding busy_period
-returns-then-keeps-up c =
+returns-then-keeps_up c =
     let cs = c.args.register.now.contracts in
     let l = c.loop-slots.slots in
     let from : 1 ≤ l = omega arith in

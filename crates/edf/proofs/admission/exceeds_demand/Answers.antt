@@ -4,8 +4,8 @@ use Rattle.edf.specs.Admission.{demand_in}
 use Rattle.edf.specs.Busy.{one_more}
 use Rattle.edf.proofs.admission.exceeds_demand.Goals as goal
 
-pub returns-then-falls-behind : goal.returns-then-falls-behind
-returns-then-falls-behind c =
+pub returns-then-falls_behind : goal.returns-then-falls_behind
+returns-then-falls_behind c =
     let cs = c.args.register.now.contracts in
     let l = c.loop-slots.slots in
     let from : 1 ≤ l = omega arith in
@@ -28,8 +28,8 @@ returns c =
     let end : c.args.period + 1 ≤ l = omega arith in
     sym (below_false c.args.period (λ k. ltb (k + 1) (demand_in cs (k + 1))) (λ k h. c.loop-slots.invariant (k + 1) (omega arith) (omega arith)))
 
-pub returns-else-falls-behind : goal.returns-else-falls-behind
-returns-else-falls-behind c =
+pub returns-else-falls_behind : goal.returns-else-falls_behind
+returns-else-falls_behind c =
     let cs = c.args.register.now.contracts in
     let l = c.loop-slots.slots in
     let end : c.args.period + 1 ≤ l + 1 = omega arith in

@@ -22,8 +22,8 @@ returns c =
       table = c.withdraw.ensures.table ∙ ap (λ b. after (withdraw_rule (m.contracts p) b) (table_of s) (set (table_of s) p None)) h;
     }
 
-pub invariant-of-self : goal.invariant-of-self
-invariant-of-self c =
+pub invariant_of-self : goal.invariant_of-self
+invariant_of-self c =
     let x = c.args.self.now in
     let v = moved x.register.slot.0 _ _ _ (held_of x) (ap (λ n. n.0) c.withdraw.ensures.slot) c.withdraw.ensures.table (withdrawal x c.args.party c.holds-holds.result c.holds-holds.ensures) in
-    (v.orderly.single, (v.orderly.spaced, (v.orderly.agreed, (v.orderly.fits, (v.tested, (v.timely, tt))))))
+    record { single = v.orderly.single; spaced = v.orderly.spaced; agreed = v.orderly.agreed; fits = v.orderly.fits; tested = v.tested; timely = v.timely }
