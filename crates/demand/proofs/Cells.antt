@@ -1,11 +1,11 @@
 -- What the tests of a held cell tell.
-use Rattle.std.proofs.Common.{◌≡◌, ℕ, ◌+◌, ◌-◌, ◌<◌, ◌≤◌, Bool, true, false, cond, eqb, ltb, leb, ◌⊎◌, List, [], ◌∷◌, sum_by, sym, refl, ap, ◌∙◌, inl, inr, arith}
+use Rattle.std.proofs.Common.{◌≡◌, ℕ, ◌+◌, ◌<◌, ◌≤◌, Bool, true, false, cond, eqb, leb, ◌⊎◌, List, [], ◌∷◌, sum_by, refl, ap, arith}
 use Rattle.std.proofs.lemmas.List.Sums.{sum_by-cons}
 use Rattle.std.proofs.lemmas.Bool.{both_ways}
 use Rattle.std.proofs.lemmas.Bool.Decides.{nat_tests}
 use Rattle.scheduler.specs.Meaning.{due}
 use Rattle.backlog.specs.declared.held.Held.{Held}
-use Rattle.backlog.specs.Cells.{due_of, is_cell, holds_in, at}
+use Rattle.backlog.specs.Cells.{due_of, holds_in, at}
 use Rattle.demand.specs.Cells.{put_since, stray, due_before}
 
 -- a cell of the party counts from its eligible slot on, and no other does

@@ -1,5 +1,5 @@
 -- Contracts and held cells stay orderly, and what follows of the laws.
-use Rattle.std.proofs.Common.{◌≡◌, ℕ, zero, suc, ◌+◌, ◌<◌, ◌≤◌, Bool, true, false, cond, ltb, ◌⊎◌, List, [], ◌∷◌, ◌++◌, length, get_or, set, Some, None, sum_by, Option, sym, refl, ap, ◌∙◌, subst, ⊎_elim, arith, length-append, get_or-set_other, get_or-set_same}
+use Rattle.std.proofs.Common.{◌≡◌, ℕ, suc, ◌+◌, ◌<◌, ◌≤◌, Bool, true, false, cond, ltb, List, [], ◌∷◌, ◌++◌, length, get_or, set, Some, None, sum_by, Option, sym, refl, ap, ◌∙◌, subst, ⊎_elim, arith, length-append, get_or-set_other, get_or-set_same}
 use Rattle.std.proofs.lemmas.List.Sums.{sum_by_push, get_or-le-sum_by}
 use Rattle.std.proofs.lemmas.Bool.{cases_lt, cases_eq, cond-false}
 use Rattle.scheduler.specs.declared.register.Register.{Register}
@@ -12,7 +12,7 @@ use Rattle.scheduler.proofs.Updates.{each_set}
 use Rattle.backlog.specs.declared.held.Held.{Held}
 use Rattle.backlog.specs.Cells.{due_of, is_cell, held_in, holds_in, at, Taken}
 use Rattle.backlog.proofs.HeldCells.{held_none, busy_is, holds_is}
-use Rattle.demand.specs.Cells.{meaning_of, next_slot, put_since, allowed_by, allowed, stray, due_before, Orderly}
+use Rattle.demand.specs.Cells.{meaning_of, put_since, allowed, stray, due_before, Orderly}
 use Rattle.demand.specs.Totals.{total_of, places}
 use Rattle.demand.proofs.Sums.{each_le, each_le_add}
 use Rattle.demand.proofs.Tables.{total_used, total_gone}

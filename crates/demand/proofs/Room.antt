@@ -1,5 +1,5 @@
 -- Held cells take no more places than the contracts want.
-use Rattle.std.proofs.Common.{◌≡◌, ℕ, zero, suc, ◌+◌, ◌-◌, ◌*◌, ◌<◌, ◌≤◌, List, [], ◌∷◌, length, get_or, Some, None, sum_by, Option, sym, refl, ap, ◌∙◌, subst, ⊎_elim, arith}
+use Rattle.std.proofs.Common.{◌≡◌, ℕ, zero, suc, ◌+◌, ◌-◌, ◌*◌, ◌<◌, ◌≤◌, List, [], ◌∷◌, length, get_or, Some, None, sum_by, Option, refl, ap, ⊎_elim, arith}
 use Rattle.std.proofs.lemmas.List.{get_or_past}
 use Rattle.std.proofs.lemmas.List.Sums.{sum_by-cons, get_or-le-sum_by}
 use Rattle.std.proofs.lemmas.Bool.{cases_lt}
@@ -7,7 +7,6 @@ use Rattle.cells.specs.declared.times.Slot.{Slot}
 use Rattle.scheduler.specs.declared.terms.Contract.{Contract}
 use Rattle.scheduler.specs.Tables.{spacing_or, bound_or, slot_or, last_or}
 use Rattle.backlog.specs.declared.held.Held.{Held}
-use Rattle.backlog.specs.Cells.{due_of}
 use Rattle.demand.specs.Cells.{put_since, allowed_by, allowed, stray, due_before}
 use Rattle.demand.specs.Counts.{ceil}
 use Rattle.demand.specs.Totals.{each_of, total_of, places}

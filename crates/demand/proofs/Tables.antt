@@ -1,8 +1,8 @@
 -- A table that is written at one place, and what it adds up to.
-use Rattle.std.proofs.Common.{◌≡◌, ℕ, ◌+◌, ◌<◌, ◌≤◌, List, length, get_or, set, Some, None, Option, sym, refl, ap, arith}
+use Rattle.std.proofs.Common.{◌≡◌, ℕ, ◌<◌, ◌≤◌, List, length, get_or, set, Some, None, Option, ap, arith}
 use Rattle.std.proofs.lemmas.List.Sums.{sum_by-set}
 use Rattle.scheduler.specs.declared.terms.Contract.{Contract}
-use Rattle.scheduler.specs.Meaning.{agreed, stamped, used}
+use Rattle.scheduler.specs.Meaning.{agreed, stamped}
 use Rattle.demand.specs.Totals.{each_of, total_of}
 use Rattle.demand.proofs.Sums.{sum_zero}
 

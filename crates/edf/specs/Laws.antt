@@ -4,7 +4,6 @@ use Rattle.std.proofs.Common.{sym, ap, subst, ◌∙◌, arith}
 use Rattle.std.proofs.lemmas.List.Sums.{sum_by-set}
 use Rattle.std.proofs.lemmas.Bool.{le-leb, le-ltb}
 use Rattle.std.proofs.lemmas.Bool.Decides.{nat_tests}
-use Rattle.cells.specs.declared.faults.Cause.{Cause}
 use Rattle.cells.specs.declared.faults.Cause.TheVariants.{TableExceeded, DemandExceeded}
 use Rattle.order.specs.First.{foremost}
 use Rattle.order.proofs.Foremost.{foremost_at}
@@ -17,14 +16,14 @@ use Rattle.scheduler.proofs.Holds.{below_false}
 use Rattle.backlog.specs.declared.held.Held.{Held}
 use Rattle.backlog.specs.Cells.{due_of, held_in, holds_in, at}
 use Rattle.backlog.proofs.HeldCells.{held_foremost, pushed}
-use Rattle.demand.specs.Cells.{due_before, Orderly}
+use Rattle.demand.specs.Cells.{due_before}
 use Rattle.demand.specs.Totals.{each_of, total_of, places, exceeds_table}
 use Rattle.demand.proofs.Counts.{ceil_self, jobs_self}
 use Rattle.demand.proofs.Keeps.{puts_of, puts_table, put_new, room, held_place, bound_at, contracted_of, past_of, in_time_of}
 use Rattle.demand.proofs.Firsts.{foremost_none, foremost_least}
 use Rattle.demand.proofs.Sums.{sum_zero}
 use Rattle.edf.specs.Admission.{put_in, due_in, work_in, demand_in, busy_period, over_demand, busy_verdict, test_of}
-use Rattle.edf.specs.Coming.{earlier, coming}
+use Rattle.edf.specs.Coming.{earlier}
 use Rattle.edf.specs.States.{table_of, held_of, edf_meaning, cell_of, edf_choice, Earliest}
 use Rattle.edf.specs.declared.state.Edf.{Edf}
 use Rattle.edf.specs.Busy.{period_one}

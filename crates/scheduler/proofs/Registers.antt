@@ -1,11 +1,10 @@
 -- What a register gives of the laws.
-use Rattle.std.proofs.Common.{◌≡◌, ℕ, ◌<◌, ◌≤◌, ◌⊎◌, length, get_or, Some, None, Option, sym, refl, ap, ◌∙◌, subst, inl, inr, arith, rules}
+use Rattle.std.proofs.Common.{◌≡◌, ℕ, ◌<◌, ◌≤◌, length, Some, None, Option, subst, inl, inr, arith}
 use Rattle.std.proofs.lemmas.List.{get_or_past}
 use Rattle.cells.specs.declared.times.Slot.{Slot}
 use Rattle.scheduler.specs.declared.terms.Contract.{Contract}
 use Rattle.scheduler.specs.declared.register.Register.{Register}
 use Rattle.scheduler.specs.Laws.{Terms, InRange}
-use Rattle.scheduler.specs.Meaning.{Meaning}
 use Rattle.scheduler.proofs.Holds.{low_or_high}
 use Rattle.scheduler.specs.Tables.{contracts_of, spacing_or, bound_or, slot_or, last_or}
 

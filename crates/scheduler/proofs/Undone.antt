@@ -1,7 +1,7 @@
 -- A grant that is taken back at once leaves a scheduler as it was.
-use Rattle.std.proofs.Common.{◌≡◌, ℕ, false, Some, None, sym, refl, ap, ◌∙◌, rules}
+use Rattle.std.proofs.Common.{◌≡◌, ℕ, false, None, refl, ◌∙◌, rules}
 use Rattle.scheduler.specs.Laws.{Contracted}
-use Rattle.scheduler.specs.Meaning.{Meaning, granted, withdrawn, withdraw_verdict, refused_if, holds_of, updated}
+use Rattle.scheduler.specs.Meaning.{Meaning, granted, withdrawn, withdraw_verdict, holds_of}
 use Rattle.scheduler.proofs.Holds.{holds_of_none}
 use Rattle.scheduler.proofs.Updates.{updated_twice, updated_same, same_meaning}
 

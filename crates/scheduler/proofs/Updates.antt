@@ -1,5 +1,5 @@
 -- One place of a table that is written.
-use Rattle.std.proofs.Common.{◌≡◌, ℕ, ◌<◌, Bool, true, false, cond, eqb, List, length, get_or, set, Some, None, Option, sym, refl, ap, ◌∙◌, subst, get_or-set_other, get_or-set_same, rules}
+use Rattle.std.proofs.Common.{◌≡◌, ℕ, ◌<◌, Bool, true, false, cond, eqb, List, length, get_or, set, None, Option, sym, refl, ap, ◌∙◌, subst, get_or-set_other, get_or-set_same, rules}
 use mathlib.Core.Path.{fun_ext}
 use Rattle.scheduler.specs.declared.terms.Contract.{Contract}
 use Rattle.scheduler.specs.Meaning.{Meaning, updated}

@@ -1,5 +1,5 @@
 -- Verdicts, and what they tell and leave.
-use Rattle.std.proofs.Common.{◌≡◌, ℕ, Some, None, Ok, Err, Option, sym, refl, ap, ◌∙◌, arith, rules}
+use Rattle.std.proofs.Common.{◌≡◌, ℕ, Some, None, Ok, Err, Option, sym, refl, ap, ◌∙◌, arith}
 use Rattle.cells.specs.declared.faults.Cause.{Cause}
 use Rattle.cells.specs.declared.faults.Fault.{Fault}
 use Rattle.scheduler.specs.declared.terms.Contract.{Contract}

@@ -1,5 +1,5 @@
 -- What a scheduler means, and what each call answers and does to that.
-use Rattle.std.specs.Prelude.{◌≡◌, ℕ, zero, suc, ◌+◌, ◌-◌, Bool, true, false, cond, ltb, is_some, Some, None, Ok, Err, Option, Result, ◌==◌, nat_lt}
+use Rattle.std.specs.Prelude.{ℕ, zero, suc, ◌+◌, ◌-◌, Bool, true, false, cond, ltb, is_some, Some, None, Ok, Err, Option, Result, ◌==◌, nat_lt}
 use Rattle.cells.specs.declared.faults.Cause.{Cause}
 use Rattle.cells.specs.declared.faults.Cause.TheVariants.{PartyOutOfRange, PartyHasContract, SpacingOutOfRange, BoundOutOfRange, CellsPresent, NoContract, TooSoon, SlotsOver, PartyHasCells}
 use Rattle.cells.specs.declared.faults.Layer.TheVariants.{Scheduler}

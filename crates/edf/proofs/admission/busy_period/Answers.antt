@@ -1,4 +1,4 @@
-use Rattle.std.proofs.Common.{◌≡◌, ℕ, ◌+◌, ◌<◌, ◌≤◌, true, false, leb, sym, arith, rules}
+use Rattle.std.proofs.Common.{◌≡◌, ◌+◌, ◌<◌, ◌≤◌, true, false, leb, sym, arith, rules}
 use Rattle.edf.specs.Admission.{work_in, busy_period}
 use Rattle.edf.specs.Busy.{least_found, least_none, one_more}
 use Rattle.edf.proofs.admission.busy_period.Goals as goal

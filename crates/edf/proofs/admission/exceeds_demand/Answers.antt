@@ -1,4 +1,4 @@
-use Rattle.std.proofs.Common.{◌≡◌, ℕ, ◌+◌, ◌-◌, ◌<◌, ◌≤◌, true, false, ltb, sym, subst, arith, rules}
+use Rattle.std.proofs.Common.{◌≡◌, ◌+◌, ◌-◌, ◌<◌, ◌≤◌, true, false, ltb, sym, subst, arith, rules}
 use Rattle.scheduler.proofs.Holds.{below_true, below_false}
 use Rattle.edf.specs.Admission.{demand_in}
 use Rattle.edf.specs.Busy.{one_more}

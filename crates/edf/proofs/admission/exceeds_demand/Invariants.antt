@@ -1,4 +1,4 @@
-use Rattle.std.proofs.Common.{◌≡◌, ℕ, ◌+◌, ◌<◌, ◌≤◌, false, ltb}
+use Rattle.std.proofs.Common.{◌≡◌, ℕ, ◌<◌, ◌≤◌, false, ltb}
 use Rattle.edf.specs.Admission.{demand_in}
 use Rattle.edf.proofs.admission.exceeds_demand.Given as goal
 

@@ -1,4 +1,4 @@
-use Rattle.std.proofs.Common.{◌≡◌, ◌≤◌, length, get_or, Ok, sym, refl, ap, ◌∙◌, arith, rules}
+use Rattle.std.proofs.Common.{◌≡◌, ◌≤◌, length, get_or, Ok, ap, ◌∙◌, arith, rules}
 use Rattle.header.specs.Headers.{bytes_of, header_in, header_of}
 use Rattle.header.specs.declared.Header.{Header}
 use Rattle.header.proofs.Six.{six, checked_ok}

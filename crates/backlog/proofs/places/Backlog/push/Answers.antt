@@ -1,5 +1,5 @@
-use Rattle.std.proofs.Common.{◌≡◌, ◌<◌, true, cond, ltb, List, [], ◌∷◌, ◌++◌, length, take, sym, ap, ◌∙◌, rules}
-use Rattle.std.proofs.lemmas.List.{take_more_set, length-take-le}
+use Rattle.std.proofs.Common.{◌≡◌, ◌<◌, true, cond, ltb, [], ◌∷◌, ◌++◌, length, sym, ap, ◌∙◌, rules}
+use Rattle.std.proofs.lemmas.List.{take_more_set}
 use Rattle.backlog.specs.Backlogs.{cells_of}
 use Rattle.backlog.proofs.places.Backlog.push.Goals as goal
 

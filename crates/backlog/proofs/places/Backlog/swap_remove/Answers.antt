@@ -1,4 +1,4 @@
-use Rattle.std.proofs.Common.{◌≡◌, ◌<◌, ◌≤◌, length, sym, ◌∙◌, arith, rules}
+use Rattle.std.proofs.Common.{◌<◌, ◌≤◌, length, sym, ◌∙◌, arith, rules}
 use Rattle.std.proofs.lemmas.List.{get_or_default, get_or-take}
 use Rattle.backlog.proofs.Firsts.{swapped}
 use Rattle.backlog.proofs.places.Backlog.swap_remove.Goals as goal

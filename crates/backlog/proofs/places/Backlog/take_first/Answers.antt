@@ -1,4 +1,4 @@
-use Rattle.std.proofs.Common.{◌≡◌, ℕ, length, get_or, Some, sym, ap, ◌∙◌, rules}
+use Rattle.std.proofs.Common.{◌≡◌, length, get_or, Some, sym, ap, ◌∙◌}
 use Rattle.order.specs.First.{First}
 use Rattle.order.proofs.Foremost.{foremost_is}
 use Rattle.backlog.specs.Backlogs.{cells_of}

@@ -1,6 +1,6 @@
-use Rattle.std.proofs.Common.{◌≡◌, ltb, length, Some, None, Ok, Err, sym, refl, ap, ◌∙◌, subst, rules}
+use Rattle.std.proofs.Common.{◌≡◌, ltb, length, None, Err, sym, refl, ap, ◌∙◌, subst, rules}
 use Rattle.std.proofs.lemmas.Result.{err_from_is_err_and}
-use Rattle.scheduler.specs.Meaning.{holds_any, common_verdict, grant_verdict, or_else, told}
+use Rattle.scheduler.specs.Meaning.{holds_any, common_verdict, grant_verdict}
 use Rattle.scheduler.specs.Tables.{Refuses, contracts_of}
 use Rattle.scheduler.proofs.Verdicts.{told_ok, told_err, after_ok, after_err, after_same, after_parts, or_else_err, or_else_ok}
 use Rattle.demand.proofs.Keeps.{busy_of}

@@ -1,12 +1,10 @@
 use Rattle.std.proofs.Common.{◌≡◌, ◌+◌, Some, None, sym, refl, ap, ◌∙◌, rules}
-use Rattle.order.specs.First.{foremost}
 use Rattle.scheduler.specs.Meaning.{after, serve_rule, serve_verdict, without}
-use Rattle.scheduler.proofs.Verdicts.{told_ok, after_ok, after_err, after_same, after_parts}
+use Rattle.scheduler.proofs.Verdicts.{after_ok, after_err, after_parts}
 use Rattle.backlog.specs.Backlogs.{cells_of}
 use Rattle.backlog.specs.Cells.{held_in}
 use Rattle.backlog.proofs.HeldCells.{held_taken}
 use Rattle.edf.specs.States.{table_of, held_of, edf_meaning, edf_choice, cell_of}
-use Rattle.edf.specs.Coming.{earlier}
 use Rattle.edf.specs.Keeps.{sound_served}
 use Rattle.edf.specs.Laws.{sound, moved, earliest}
 use Rattle.edf.proofs.calls.EdfScheduler.serve.Goals as goal

@@ -1,4 +1,4 @@
-use Rattle.std.proofs.Common.{◌≡◌, set, Some, None, sym, refl, ap, ◌∙◌}
+use Rattle.std.proofs.Common.{◌≡◌, set, None, ap, ◌∙◌}
 use Rattle.scheduler.specs.Meaning.{told, after, withdraw_rule, withdraw_verdict, updated, holds_of}
 use Rattle.scheduler.proofs.Verdicts.{after_same, after_parts}
 use Rattle.demand.proofs.Keeps.{holds_by}
