@@ -1,5 +1,5 @@
 -- Texts put together piece by piece.
-use Rattle.std.proofs.Common.{◌≡◌, ℕ, List, [], ◌++◌, sym, refl, ap, ◌∙◌, append_assoc, append-nil}
+use Rattle.std.proofs.Common.{◌≡◌, ℕ, List, [], ◌++◌, sym, ap, ◌∙◌, append_assoc, append-nil}
 
 -- one piece more: goal is what is written in the end
 pub text_more : (goal out new piece rest all : List ℕ) → goal ≡ out ++ all → all ≡ piece ++ rest → new ≡ out ++ piece → goal ≡ new ++ rest

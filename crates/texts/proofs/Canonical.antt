@@ -1,14 +1,11 @@
 -- A text that was read is the writing of what it says.
-use Rattle.std.proofs.Common.{◌≡◌, ℕ, ◌+◌, ◌-◌, ◌<◌, ◌≤◌, Bool, true, false, cond, ◌&&◌, eqb, ltb, leb, List, [], ◌∷◌, ◌++◌, map, length, get_or, take, replicate, Some, None, Ok, Err, codes, decimal, Option, Result, sym, refl, ap, ◌∙◌, subst, append_assoc, append-nil, arith}
+use Rattle.std.proofs.Common.{◌≡◌, ℕ, ◌-◌, Bool, true, false, cond, ◌&&◌, eqb, leb, List, [], ◌∷◌, ◌++◌, map, length, take, replicate, Some, None, Ok, Err, codes, Option, Result, sym, refl, ap, ◌∙◌, append_assoc, append-nil, arith}
 use lib.ListN.{length-map}
 use Rattle.std.proofs.lemmas.Slice.Eq.{bytes_eq-Decides}
-use Rattle.std.proofs.lemmas.List.{take_at, map_push, map-id}
-use Rattle.std.proofs.lemmas.Bool.{and_parts, eqb-true}
-use Rattle.std.specs.List.{flat_map}
+use Rattle.std.proofs.lemmas.List.{take_at}
+use Rattle.std.proofs.lemmas.Bool.{eqb-true}
 use Rattle.std.specs.Str.{bytes_eq}
 use Rattle.cells.specs.Faults.{field}
-use Rattle.cells.specs.declared.faults.Fault.{Fault}
-use Rattle.cells.specs.declared.times.Span.{Span}
 use Rattle.texts.specs.Fields.{pieces, numbers_of}
 use Rattle.texts.specs.PlanLines.{kind_name, span, kind_of, hop_numbers, hop_line, hop_fields, eight_of, terms, party_numbers, party_fields, plan_line, misfit, too_great}
 use Rattle.texts.specs.Writing.{tabbed, hop_written, party_written}

@@ -1,8 +1,8 @@
 -- The numbers of a PARTY line.
-use Rattle.std.proofs.Common.{◌≡◌, ℕ, zero, suc, ◌+◌, ◌-◌, ◌<◌, ◌≤◌, Bool, true, false, cond, ◌&&◌, eqb, leb, List, [], ◌∷◌, ◌++◌, map, length, get_or, take, drop, set, replicate, Ok, sym, refl, ap, ◌∙◌, subst, append_assoc, add-one, arith}
+use Rattle.std.proofs.Common.{◌≡◌, ℕ, suc, ◌+◌, ◌-◌, ◌<◌, ◌≤◌, Bool, true, false, ◌&&◌, leb, List, [], ◌∷◌, ◌++◌, map, length, get_or, take, drop, set, replicate, Ok, sym, refl, ap, ◌∙◌, append_assoc, arith}
 use lib.ListN.{length-map}
-use Rattle.std.proofs.lemmas.List.{at_drop_more, at_drop_all, take_rest, map_more, set-append_right, length-take-le, take_all}
-use Rattle.std.proofs.lemmas.Bool.{cond-true, cond-false, eq-eqb, leb-true, le-leb, lt-leb, and_parts, and_from}
+use Rattle.std.proofs.lemmas.List.{take_rest, map_more, set-append_right, length-take-le, take_all}
+use Rattle.std.proofs.lemmas.Bool.{cond-true, cond-false, eq-eqb, le-leb, and_from}
 use Rattle.cells.specs.declared.times.Span.{Span}
 use Rattle.texts.specs.declared.forms.PlanEntry.TheVariants.{Party}
 use Rattle.texts.specs.PlanLines.{span, terms, eight_of, party_numbers, too_great}

@@ -1,5 +1,5 @@
 -- A whole text that was read is the writing of what it says.
-use Rattle.std.proofs.Common.{◌≡◌, ℕ, ◌+◌, ◌-◌, ◌<◌, ◌≤◌, Bool, true, false, cond, not, ◌&&◌, eqb, ltb, leb, List, [], ◌∷◌, ◌++◌, length, get_or, take, drop, IfOk, Some, None, Ok, Err, decimal, Option, Result, sym, refl, ap, ◌∙◌, subst, inl, inr, append_assoc, append-nil, arith}
+use Rattle.std.proofs.Common.{◌≡◌, ℕ, ◌+◌, ◌-◌, ◌<◌, Bool, true, false, cond, eqb, ltb, leb, List, [], ◌∷◌, ◌++◌, length, get_or, take, drop, IfOk, Some, None, Ok, Err, decimal, Option, Result, sym, refl, ap, ◌∙◌, inl, inr, append_assoc, append-nil, arith}
 use Rattle.std.proofs.lemmas.List.{flat_map_more, nil_from_length, take_more, take_all, get_or_past}
 use Rattle.std.proofs.lemmas.Bool.{and_parts, eqb-true, cases_lt}
 use Rattle.std.specs.List.{flat_map}
@@ -11,7 +11,6 @@ use Rattle.texts.specs.Fields.{pieces, numbers_of}
 use Rattle.texts.specs.declared.refusals.Refusal.{Refusal}
 use Rattle.texts.specs.declared.refusals.Refusal.TheVariants.{Faulty, NoMemory}
 use Rattle.texts.specs.Lines.{ToldBy, and_then, each_line, fit_text, body_of, read_text}
-use Rattle.texts.specs.Parties.{listed}
 use Rattle.texts.specs.PlanLines.{plan_line}
 use Rattle.texts.specs.Plans.{Layout, blank, placed, added, added_line, misplaced, plan_step, plan_end, plan_of}
 use Rattle.texts.specs.Traces.{slot_at, trace_numbers, trace_fields, line_placed, added_to, trace_step, trace_end, trace_of}

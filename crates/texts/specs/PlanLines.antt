@@ -10,8 +10,6 @@ use Rattle.texts.specs.Every.{every}
 use Rattle.texts.specs.Fields.{numbers_of}
 use Rattle.texts.specs.declared.forms.Kind.{Kind}
 use Rattle.texts.specs.declared.forms.Kind.TheVariants.{Edf, Sp, Table}
-use Rattle.texts.specs.declared.forms.PlanHop.{PlanHop}
-use Rattle.texts.specs.declared.forms.PlanParty.{PlanParty}
 use Rattle.texts.specs.declared.forms.PlanEntry.{PlanEntry}
 use Rattle.texts.specs.declared.forms.PlanEntry.TheVariants.{Hop, Party}
 

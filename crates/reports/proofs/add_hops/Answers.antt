@@ -1,4 +1,4 @@
-use Rattle.std.proofs.Common.{◌≡◌, ◌++◌, get_or, string_bytes, sym, refl, ap, ◌∙◌, rules}
+use Rattle.std.proofs.Common.{◌≡◌, ◌++◌, get_or, string_bytes, rules}
 use Rattle.std.proofs.lemmas.List.{at_drop_more, at_drop_all}
 use Rattle.texts.specs.PlanLines.{span}
 use Rattle.reports.specs.Reports.{hop_text, hop_texts}
@@ -16,7 +16,7 @@ loop-i-preserved c =
     let i = c.loop-i.i in
     let out = string_bytes c.loop-i.out in
     let piece = hop_text i (get_or hs i none) in
-    let push : string_bytes c.push-str.new.self ≡ out ++ piece = search rules in
+    let push : string_bytes c.push_str.new.self ≡ out ++ piece = search rules in
     text_more _ out _ piece _ _ c.loop-i.invariant (at_drop_more (hop_texts i) hs i none c.loop-i-test.true) push
 
 pub returns : goal.returns

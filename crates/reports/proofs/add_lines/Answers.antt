@@ -15,7 +15,7 @@ loop-line-preserved c =
     let i = c.loop-line.line-index in
     let out = string_bytes c.loop-line.out in
     let piece = line_text (get_or ls i none) in
-    let push : string_bytes c.push-str.new.self ≡ out ++ piece = search rules in
+    let push : string_bytes c.push_str.new.self ≡ out ++ piece = search rules in
     text_more _ out _ piece _ _ c.loop-line.invariant (at_drop_more line_texts ls i none c.loop-line-test.true) push
 
 pub returns : goal.returns

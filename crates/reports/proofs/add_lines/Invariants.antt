@@ -1,4 +1,4 @@
-use Rattle.std.proofs.Common.{◌≡◌, ◌++◌, drop, vec_items, string_bytes}
+use Rattle.std.proofs.Common.{◌≡◌, ◌++◌, drop, string_bytes}
 use Rattle.reports.specs.Reports.{line_texts}
 use Rattle.reports.proofs.add_lines.Given as goal
 

@@ -16,7 +16,7 @@ loop-party-preserved c =
     let i = c.loop-party.party-index in
     let out = string_bytes c.loop-party.out in
     let piece = party_text hs (get_or ps i none) in
-    let push : string_bytes c.push-str.new.self ≡ out ++ piece = search rules in
+    let push : string_bytes c.push_str.new.self ≡ out ++ piece = search rules in
     text_more _ out _ piece _ _ c.loop-party.invariant (at_drop_more (party_texts hs) ps i none c.loop-party-test.true) push
 
 pub returns : goal.returns

@@ -1,4 +1,4 @@
-use Rattle.std.proofs.Common.{◌≡◌, ◌<◌, length, arith, rules}
+use Rattle.std.proofs.Common.{◌<◌, length, arith, rules}
 use Rattle.texts.specs.PlanLines.{span}
 use Rattle.texts.specs.declared.forms.Kind.TheVariants.{Edf}
 use Rattle.reports.proofs.Sums.{sum_more, sum_all}

@@ -1,7 +1,7 @@
-use Rattle.std.proofs.Common.{◌≡◌, ℕ, ◌-◌, ◌≤◌, Bool, true, false, ◌&&◌, eqb, leb, List, length, get_or, take, Some, None, sym, ap, ◌∙◌, inl, inr, arith}
+use Rattle.std.proofs.Common.{◌≡◌, ◌-◌, true, false, eqb, leb, length, take, Some, sym, ap, ◌∙◌, arith}
 use Rattle.std.proofs.lemmas.List.{get_or_past}
 use Rattle.std.proofs.lemmas.Bool.{and_left, and_right, and_from, lt-leb, le-leb, ne_eqb, eq-eqb, cond-true, cond-false}
-use Rattle.texts.specs.Lines.{fit_text, body_of}
+use Rattle.texts.specs.Lines.{fit_text}
 use Rattle.texts.proofs.fields.body.Goals as goal
 use Rattle.texts.proofs.fields.body.Goals.{then-len-eq0-via-then-len-eq0, then-len-eq0-via-else-len-eq0+then-len-gt-TEXT_MAX, then-len-eq0-via-else-len-eq0+else-len-gt-TEXT_MAX+then-text-len-ne-NEWLINE}
 

@@ -1,4 +1,4 @@
-use Rattle.std.proofs.Common.{◌≡◌, arith}
+use Rattle.std.proofs.Common.{arith}
 use Rattle.texts.proofs.Pieces.{uncut, cut_at}
 use Rattle.texts.proofs.fields.cut.Goals as goal
 

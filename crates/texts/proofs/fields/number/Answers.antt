@@ -1,7 +1,7 @@
-use Rattle.std.proofs.Common.{◌≡◌, ℕ, ◌+◌, ◌*◌, ◌<◌, ◌≤◌, List, length, get_or, Some, decimal, sym, ap, ◌∙◌, subst, inl, inr, arith, rules}
+use Rattle.std.proofs.Common.{◌≡◌, ℕ, ◌+◌, ◌*◌, ◌<◌, ◌≤◌, length, get_or, Some, decimal, sym, ap, ◌∙◌, inl, inr, arith, rules}
 use Rattle.std.specs.Int.{IsInRange}
 use Rattle.std.specs.Str.Parse.{AllDigits, digits_value}
-use Rattle.texts.proofs.Numerals.{Bare, too_short, too_long, padded, not_a_digit, named, written, short, digit_more, number_more, whole}
+use Rattle.texts.proofs.Numerals.{Bare, not_a_digit, named, written, short, digit_more, number_more, whole}
 use Rattle.texts.proofs.fields.number.Goals as goal
 
 pub returns-then-digit-lt48 : goal.returns-then-digit-lt48
@@ -10,11 +10,11 @@ returns-then-digit-lt48 c =
     let never : IsInRange 48 57 (get_or bs c.loop-x.x-index 0) → ⊥ = λ i. elim c.then-digit-lt48.either [ inl e ↦ omega arith | inr e ↦ omega arith ] in
     record { value = not_a_digit bs c.loop-x.x-index c.loop-x-test.true never; written = tt }
 
-pub overflow-mul-n : goal.overflow-mul-n
-overflow-mul-n c = omega (arith, short c.args.field.now c.loop-x.x-index (omega arith) (omega arith) c.loop-x.invariant.0, c.loop-x.invariant.1)
+pub overflow_mul-n : goal.overflow_mul-n
+overflow_mul-n c = omega (arith, short c.args.field.now c.loop-x.x-index (omega arith) (omega arith) c.loop-x.invariant.0, c.loop-x.invariant.1)
 
-pub overflow-add-n : goal.overflow-add-n
-overflow-add-n c = omega (arith, short c.args.field.now c.loop-x.x-index (omega arith) (omega arith) c.loop-x.invariant.0, c.loop-x.invariant.1, c.from.ensures)
+pub overflow_add-n : goal.overflow_add-n
+overflow_add-n c = omega (arith, short c.args.field.now c.loop-x.x-index (omega arith) (omega arith) c.loop-x.invariant.0, c.loop-x.invariant.1, c.from.ensures)
 
 pub loop-x-preserved : goal.loop-x-preserved
 loop-x-preserved c = (

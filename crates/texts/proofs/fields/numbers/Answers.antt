@@ -1,17 +1,17 @@
-use Rattle.std.proofs.Common.{◌≡◌, ◌<◌, List, vec_items, sym, refl, ap, ◌∙◌, rules}
+use Rattle.std.proofs.Common.{vec_items, sym, ap, ◌∙◌}
 use Rattle.std.specs.Option.{option_map}
 use Rattle.texts.specs.Fields.{behind, numbers_of}
-use Rattle.texts.proofs.Pieces.{left, left_less}
+use Rattle.texts.proofs.Pieces.{left_less}
 use Rattle.texts.proofs.Sequences.{onto, onto_nil, one_more, not_one, all_read}
 use Rattle.texts.proofs.fields.numbers.Goals as goal
 
 pub loop-rest-init : goal.loop-rest-init
 loop-rest-init c = onto_nil _ ∙ ap (λ xs. onto xs (numbers_of (behind 9 (option_map (λ r. r.now) c.args.fields)))) (sym c.new-all.ensures.items)
 
-pub returns-in-default-number : goal.returns-in-default-number
-returns-in-default-number c =
+pub returns-in_default-number : goal.returns-in_default-number
+returns-in_default-number c =
     let here = ap (λ o. behind 9 (option_map (λ r. r.now) o)) c.in-Some.is ∙ c.cut.ensures.parts in
-    sym (c.loop-rest.invariant ∙ ap (λ fs. onto (vec_items c.loop-rest.all) (numbers_of fs)) here ∙ not_one (vec_items c.loop-rest.all) c.cut.result.0.now (behind 9 (option_map (λ r. r.now) c.cut.result.1)) c.in-default-number.ensures.value)
+    sym (c.loop-rest.invariant ∙ ap (λ fs. onto (vec_items c.loop-rest.all) (numbers_of fs)) here ∙ not_one (vec_items c.loop-rest.all) c.cut.result.0.now (behind 9 (option_map (λ r. r.now) c.cut.result.1)) c.in_default-number.ensures.value)
 
 pub loop-rest-smaller : goal.loop-rest-smaller
 loop-rest-smaller c = left_less _ _ _ c.in-Some.is c.cut.ensures.shorter

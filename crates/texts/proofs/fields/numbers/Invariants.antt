@@ -1,4 +1,4 @@
-use Rattle.std.proofs.Common.{◌≡◌, ℕ, vec_items}
+use Rattle.std.proofs.Common.{◌≡◌, vec_items}
 use Rattle.std.specs.Option.{option_map}
 use Rattle.texts.specs.Fields.{behind, numbers_of}
 use Rattle.texts.proofs.Pieces.{left}

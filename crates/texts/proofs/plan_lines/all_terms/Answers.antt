@@ -8,10 +8,10 @@ use Rattle.texts.proofs.plan_lines.all_terms.Goals as goal
 pub loop-bound-init : goal.loop-bound-init
 loop-bound-init c = refl
 
-pub returns-then-bound-gt-TERM-MAX : goal.returns-then-bound-gt-TERM-MAX
-returns-then-bound-gt-TERM-MAX c =
+pub returns-then-bound-gt-TERM_MAX : goal.returns-then-bound-gt-TERM_MAX
+returns-then-bound-gt-TERM_MAX c =
     let x = get_or c.args.bounds.now c.loop-bound.bound-index 0 in
-    sym (c.loop-bound.invariant ∙ every_more (λ d. leb d 65535) c.args.bounds.now c.loop-bound.bound-index 0 _ c.loop-bound-test.true (lt-leb x 65535 c.if-bound-gt-TERM-MAX.true))
+    sym (c.loop-bound.invariant ∙ every_more (λ d. leb d 65535) c.args.bounds.now c.loop-bound.bound-index 0 _ c.loop-bound-test.true (lt-leb x 65535 c.if-bound-gt-TERM_MAX.true))
 
 pub loop-bound-preserved : goal.loop-bound-preserved
 loop-bound-preserved c =
