@@ -15,12 +15,12 @@ use Rattle.table.specs.Waits.{wait_most, wait_end, wait_same, wait-assigned, oth
 
 -- the slot n, the contracts f, the owners and the labels g go together
 abbrev pub Kept : ℕ → (ℕ → Option Contract) → (ℕ → Option ℕ) → (ℕ → Option ℕ) → Type 0
-Kept n f owner g =
-    ((k : ℕ) → tenant f (owner k) ≡ true)
-    × (((q k : ℕ) → wait owner q k + 1 ≤ period_or (f q))
-    × (((q : ℕ) → n ≤ turn_by n (wait owner q) (last_of (f q)) (g q))
-    × (((q : ℕ) → dated (last_of (f q)) (g q) ≡ true)
-    × Unit {0})))
+Kept n f owner g = record {
+  tenants : (k : ℕ) → tenant f (owner k) ≡ true;
+  recurring : (q k : ℕ) → wait owner q k + 1 ≤ period_or (f q);
+  prompt : (q : ℕ) → n ≤ turn_by n (wait owner q) (last_of (f q)) (g q);
+  dated : (q : ℕ) → dated (last_of (f q)) (g q) ≡ true;
+}
 
 -- the same of equal parts
 pub kept_along : (n m : ℕ) (f h : ℕ → Option Contract) (owner tenant : ℕ → Option ℕ) (g l : ℕ → Option ℕ) → n ≡ m → f ≡ h → owner ≡ tenant → g ≡ l → Kept m h tenant l → Kept n f owner g
@@ -46,7 +46,7 @@ tenant-updated f q v s (Some r) h = way (r == q)
 
 pub kept_granted : (n : ℕ) (f : ℕ → Option Contract) (owner g : ℕ → Option ℕ) (q s d o : ℕ) → Fits s d (period s d) → o < period s d → free owner (period s d) o ≡ true → f q ≡ None
     → Kept n f owner g → Kept n (updated f q (Some (agreed s d))) (assigned owner (period s d) o q) g
-kept_granted n f owner g q s d o fits l fr none k = (tenants, (recurring, (prompt, (dates, tt))))
+kept_granted n f owner g q s d o fits l fr none k = record { tenants = tenants; recurring = recurring; prompt = prompt; dated = dates }
   where
     p : ℕ
     p = period s d
@@ -59,7 +59,7 @@ kept_granted n f owner g q s d o fits l fr none k = (tenants, (recurring, (promp
       where
         way : (b : Bool) → tenant (updated f q (Some (agreed s d))) (cond b (Some q) (owner j)) ≡ true
         way true = ap (λ b. is_some (cond b (Some (agreed s d)) (f q))) (eq-eqb q q refl)
-        way false = tenant-updated f q (Some (agreed s d)) refl (owner j) (k.0 j)
+        way false = tenant-updated f q (Some (agreed s d)) refl (owner j) (k.tenants j)
 
     same : (r : ℕ) → (r ≢ q) → (j : ℕ) → wait new r j ≡ wait owner r j
     same r ne j = wait_same new owner r j (others_assigned owner p o q r fr ne)
@@ -68,29 +68,29 @@ kept_granted n f owner g q s d o fits l fr none k = (tenants, (recurring, (promp
     recurring r j =
         each (λ r c. wait new r j + 1 ≤ period_or c) f q (Some (agreed s d))
         (omega (arith, wait-assigned owner s d p o q j fits l))
-        (λ r ne. omega (arith, same r ne j, k.1.0 r j))
+        (λ r ne. omega (arith, same r ne j, k.recurring r j))
         r
 
     prompt : (r : ℕ) → n ≤ turn_by n (wait new r) (last_of (updated f q (Some (agreed s d)) r)) (g r)
     prompt =
         each (λ r c. n ≤ turn_by n (wait new r) (last_of c) (g r)) f q (Some (agreed s d))
         (omega arith)
-        (λ r ne. subst (λ w. n ≤ turn_by n w (last_of (f r)) (g r)) (sym (fun_ext (same r ne))) (k.1.1.0 r))
+        (λ r ne. subst (λ w. n ≤ turn_by n w (last_of (f r)) (g r)) (sym (fun_ext (same r ne))) (k.prompt r))
 
     dates : (r : ℕ) → dated (last_of (updated f q (Some (agreed s d)) r)) (g r) ≡ true
     dates =
         each (λ r c. dated (last_of c) (g r) ≡ true) f q (Some (agreed s d))
-        (subst (λ c. dated (last_of c) (g q) ≡ true) none (k.1.1.1.0 q))
-        (λ r ne. k.1.1.1.0 r)
+        (subst (λ c. dated (last_of c) (g q) ≡ true) none (k.dated q))
+        (λ r ne. k.dated r)
 
 pub kept_withdrawn : (n : ℕ) (f : ℕ → Option Contract) (owner g : ℕ → Option ℕ) (q : ℕ) → g q ≡ None → Kept n f owner g → Kept n (updated f q None) (released owner q) g
-kept_withdrawn n f owner g q none k = (tenants, (recurring, (prompt, (dates, tt))))
+kept_withdrawn n f owner g q none k = record { tenants = tenants; recurring = recurring; prompt = prompt; dated = dates }
   where
     new : ℕ → Option ℕ
     new = released owner q
 
     tenants : (j : ℕ) → tenant (updated f q None) (new j) ≡ true
-    tenants j = way (owner j) (k.0 j)
+    tenants j = way (owner j) (k.tenants j)
       where
         here : (r : ℕ) (b : Bool) → (r == q) ≡ b → is_some (f r) ≡ true → tenant (updated f q None) (cond b None (Some r)) ≡ true
         here r true t h = refl
@@ -107,20 +107,20 @@ kept_withdrawn n f owner g q none k = (tenants, (recurring, (prompt, (dates, tt)
     recurring r j =
         each (λ r c. wait new r j + 1 ≤ period_or c) f q None
         (omega (arith, wait_most new q j))
-        (λ r ne. omega (arith, same r ne j, k.1.0 r j))
+        (λ r ne. omega (arith, same r ne j, k.recurring r j))
         r
 
     prompt : (r : ℕ) → n ≤ turn_by n (wait new r) (last_of (updated f q None r)) (g r)
     prompt =
         each (λ r c. n ≤ turn_by n (wait new r) (last_of c) (g r)) f q None
         (omega arith)
-        (λ r ne. subst (λ w. n ≤ turn_by n w (last_of (f r)) (g r)) (sym (fun_ext (same r ne))) (k.1.1.0 r))
+        (λ r ne. subst (λ w. n ≤ turn_by n w (last_of (f r)) (g r)) (sym (fun_ext (same r ne))) (k.prompt r))
 
     dates : (r : ℕ) → dated (last_of (updated f q None r)) (g r) ≡ true
     dates =
         each (λ r c. dated (last_of c) (g r) ≡ true) f q None
         (ap (dated None) none)
-        (λ r ne. k.1.1.1.0 r)
+        (λ r ne. k.dated r)
 
 -- what holds of the two places that are written and of the others
 both : {X Y : Type 0} (P : ℕ → X → Y → Type 0) (f : ℕ → X) (g : ℕ → Y) (q : ℕ) (v : X) (w : Y) → P q v w → ((r : ℕ) → P r (f r) (g r)) → (r : ℕ) → P r (updated f q v r) (updated g q w r)
@@ -131,23 +131,23 @@ both P f g q v w here there r = way (r == q) refl
     way false t = there r
 
 pub kept_put : (n : ℕ) (f : ℕ → Option Contract) (owner g : ℕ → Option ℕ) (q l : ℕ) (c : Contract) → f q ≡ Some c → Kept n f owner g → Kept n (updated f q (Some (stamped c n))) owner (updated g q (Some l))
-kept_put n f owner g q l c e k = (tenants, (recurring, (prompt, (dates, tt))))
+kept_put n f owner g q l c e k = record { tenants = tenants; recurring = recurring; prompt = prompt; dated = dates }
   where
     v : Option Contract
     v = Some (stamped c n)
 
     tenants : (j : ℕ) → tenant (updated f q v) (owner j) ≡ true
-    tenants j = tenant-updated f q v refl (owner j) (k.0 j)
+    tenants j = tenant-updated f q v refl (owner j) (k.tenants j)
 
     recurring : (r j : ℕ) → wait owner r j + 1 ≤ period_or (updated f q v r)
     recurring r j =
-        each (λ r c. wait owner r j + 1 ≤ period_or c) f q v (subst (λ c. wait owner q j + 1 ≤ period_or c) e (k.1.0 q j)) (λ r ne. k.1.0 r j) r
+        each (λ r c. wait owner r j + 1 ≤ period_or c) f q v (subst (λ c. wait owner q j + 1 ≤ period_or c) e (k.recurring q j)) (λ r ne. k.recurring r j) r
 
     prompt : (r : ℕ) → n ≤ turn_by n (wait owner r) (last_of (updated f q v r)) (updated g q (Some l) r)
-    prompt = both (λ r c b. n ≤ turn_by n (wait owner r) (last_of c) b) f g q v (Some l) (omega arith) k.1.1.0
+    prompt = both (λ r c b. n ≤ turn_by n (wait owner r) (last_of c) b) f g q v (Some l) (omega arith) k.prompt
 
     dates : (r : ℕ) → dated (last_of (updated f q v r)) (updated g q (Some l) r) ≡ true
-    dates = both (λ r c b. dated (last_of c) b ≡ true) f g q v (Some l) refl k.1.1.1.0
+    dates = both (λ r c b. dated (last_of c) b ≡ true) f g q v (Some l) refl k.dated
 
 -- a party that may put again holds nothing: its turn has come
 pub idle : (n : ℕ) (w : ℕ → ℕ) (o : Option Slot) (g : Option ℕ) (p s : ℕ) → p ≤ s → ((j : ℕ) → w j + 1 ≤ p) → n ≤ turn_by n w o g → dated o g ≡ true → ((t : Slot) → o ≡ Some t → t.0 + s ≤ n) → g ≡ None
@@ -176,12 +176,22 @@ short owner q (Some c) terms r t e =
 
 pub kept_stepped : (n : ℕ) (f : ℕ → Option Contract) (owner g : ℕ → Option ℕ) → ((q : ℕ) (c : Contract) → f q ≡ Some c → Terms c) → ((q : ℕ) → owns owner q n ≡ true → unheld (last_of (f q)) (g q) ≡ true) → Kept n f owner g → Kept (n + 1) f owner g
 kept_stepped n f owner g terms u k =
-    (k.0, (k.1.0, ((λ q. step n owner q (last_of (f q)) (g q) (short owner q (f q) (terms q) (k.1.0 q)) (u q) (k.1.1.0 q)), (k.1.1.1.0, tt))))
+    record {
+      tenants = k.tenants;
+      recurring = k.recurring;
+      prompt = λ q. step n owner q (last_of (f q)) (g q) (short owner q (f q) (terms q) (k.recurring q)) (u q) (k.prompt q);
+      dated = k.dated;
+    }
 
 -- a label goes
 pub kept_served : (n : ℕ) (f : ℕ → Option Contract) (owner g : ℕ → Option ℕ) (p : ℕ) → Kept n f owner g → Kept n f owner (updated g p None)
 kept_served n f owner g p k =
-    (k.0, (k.1.0, (each (λ q b. n ≤ turn_by n (wait owner q) (last_of (f q)) b) g p None (waits (last_of (f p))) (λ q ne. k.1.1.0 q), (each (λ q b. dated (last_of (f q)) b ≡ true) g p None (dates (last_of (f p))) (λ q ne. k.1.1.1.0 q), tt))))
+    record {
+      tenants = k.tenants;
+      recurring = k.recurring;
+      prompt = each (λ q b. n ≤ turn_by n (wait owner q) (last_of (f q)) b) g p None (waits (last_of (f p))) (λ q ne. k.prompt q);
+      dated = each (λ q b. dated (last_of (f q)) b ≡ true) g p None (dates (last_of (f p))) (λ q ne. k.dated q);
+    }
   where
     waits : (o : Option Slot) → n ≤ turn_by n (wait owner p) o None
     waits None = omega arith

@@ -26,7 +26,7 @@ abbrev pub contract_of : Table → ℕ → Option Contract
 contract_of x = contracts_of x.register.contracts
 
 pub kept : (x : Table) → Kept x.register.slot.0 (contract_of x) (owner_of x) (label_of x)
-kept x = (x.tenants, (x.recurring, (x.prompt, (x.dated, tt))))
+kept x = record { tenants = x.tenants; recurring = x.recurring; prompt = x.prompt; dated = x.dated }
 
 pub contracted : (x : Table) → Contracted (table_meaning x)
 contracted x = record {

@@ -3,7 +3,7 @@ use Rattle.std.specs.Prelude.{◌≡◌, ℕ, zero, suc, ◌+◌, ◌/◌, ◌%�
 use Rattle.std.proofs.Common.{sym, ap, ◌∙◌, inl, inr, div-add-mod', mul-le-mul_right, add-mul, arith}
 use Rattle.std.proofs.Math.Path.{fun_ext}
 use Rattle.std.proofs.lemmas.List.{get_or_past}
-use Rattle.std.proofs.lemmas.Bool.{eq-eqb, eqb-true, lt-ltb, le-ltb, ltb-true, both_ways, not_true, cases_lt, cases_order}
+use Rattle.std.proofs.lemmas.Bool.{eq-eqb, eqb-true, lt-ltb, le-ltb, ltb-true, both_ways, not-true, cases_lt, cases_order}
 use Rattle.scheduler.specs.Meaning.{some_below}
 use Rattle.scheduler.proofs.Holds.{below_true, below_false, none_below}
 use Rattle.table.specs.Helds.{is_none}
@@ -63,7 +63,7 @@ unfolding free
 free_at owner p o k h t =
     let f : ℕ → Bool = λ k. cond (turn_of p o k) (is_some (owner k)) false in
     let q = turn_parts p o k t in
-    is_none (owner k) (ap (λ b. cond b (is_some (owner k)) false) (sym t) ∙ none_below 128 f (not_true (some_below 128 f) h) k q.0)
+    is_none (owner k) (ap (λ b. cond b (is_some (owner k)) false) (sym t) ∙ none_below 128 f (not-true (some_below 128 f) h) k q.0)
 
 -- what the search finds is the least free offset
 pub found_least : (owner : ℕ → Option ℕ) (p : ℕ) (r : Option ℕ) → Found owner p r → least_free owner p ≡ r

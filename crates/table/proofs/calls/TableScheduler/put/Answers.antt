@@ -37,28 +37,28 @@ free_to_put x p c is ok =
     (x.dated p)
     (λ t e. spaced c n t (subst (λ o. put_rule o n ≡ None) is ok) (sym (ap last_of is) ∙ e))
 
-pub invariant-of-self : goal.invariant-of-self
-invariant-of-self c =
+pub invariant_of-self : goal.invariant_of-self
+invariant_of-self c =
     let x = c.args.self.now in
     let p = c.args.party in
     let n = x.register.slot.0 in
     let f = contract_of x in
-    let same = c.put.ensures.contracts ∙ sym (after_err (put_rule (f p) n) p _ f f (updated f p (used (f p) n)) c.in-err-put.ensures.answer refl) in
+    let same = c.put.ensures.contracts ∙ sym (after_err (put_rule (f p) n) p _ f f (updated f p (used (f p) n)) c.in_err-put.ensures.answer refl) in
     kept_along _ n _ f _ (owner_of x) _ (label_of x) (ap (λ t. t.0) c.put.ensures.slot) same refl refl (kept x)
 
 pub keep-requires : goal.keep-requires
-keep-requires c = omega (arith, party c.args.self.now.register c.args.party c.in-ok-put.field-0 c.in-ok-put.ensures.answer.0)
+keep-requires c = omega (arith, party c.args.self.now.register c.args.party c.in_ok-put.field-0 c.in_ok-put.ensures.answer.0)
 
-pub invariant-of-self-2 : goal.invariant-of-self-2
-invariant-of-self-2 c =
+pub invariant_of-self-2 : goal.invariant_of-self-2
+invariant_of-self-2 c =
     let x = c.args.self.now in
     let p = c.args.party in
     let l = c.args.label in
     let n = x.register.slot.0 in
     let f = contract_of x in
-    let t = c.in-ok-put.field-0 in
-    let is = c.in-ok-put.ensures.answer.0 in
-    let ok = c.in-ok-put.ensures.answer.1 in
+    let t = c.in_ok-put.field-0 in
+    let is = c.in_ok-put.ensures.answer.0 in
+    let ok = c.in_ok-put.ensures.answer.1 in
     let whole = x.labels.whole in
     let low = party x.register p t is in
     let within : p < length x.labels.parties = omega arith in
@@ -74,9 +74,9 @@ returns c =
     let n = x.register.slot.0 in
     let f = contract_of x in
     let g = label_of x in
-    let t = c.in-ok-put.field-0 in
-    let is = c.in-ok-put.ensures.answer.0 in
-    let ok : put_verdict (table_meaning x) p ≡ None = c.in-ok-put.ensures.answer.1 in
+    let t = c.in_ok-put.field-0 in
+    let is = c.in_ok-put.ensures.answer.0 in
+    let ok : put_verdict (table_meaning x) p ≡ None = c.in_ok-put.ensures.answer.1 in
     let whole = x.labels.whole in
     let low = party x.register p t is in
     let within : p < length x.labels.parties = omega arith in

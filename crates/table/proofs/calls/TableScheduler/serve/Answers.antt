@@ -11,8 +11,8 @@ use Rattle.table.specs.Keeps.{kept_along, kept_stepped, kept_served, owner_is, s
 use Rattle.table.specs.Laws.{kept, label_of, contract_of}
 use Rattle.table.proofs.calls.TableScheduler.serve.Goals as goal
 
-pub invariant-of-self-in-Some : goal.invariant-of-self-in-Some
-invariant-of-self-in-Some c =
+pub invariant_of-self-in-Some : goal.invariant_of-self-in-Some
+invariant_of-self-in-Some c =
     let x = c.args.self.now in
     let n = x.register.slot.0 in
     let f = contract_of x in
@@ -26,8 +26,8 @@ invariant-of-self-in-Some c =
     kept_along _ (n + 1) _ f _ (owner_of x) _ (updated g p None) slot (ap contracts_of c.tick.ensures.table) refl (ap (λ ls q. get_or ls q None) c.clear.ensures ∙ table-set (λ o. o) x.labels.parties p None None within)
     (kept_stepped n f (owner_of x) (updated g p None) (terms x.register) (served_out f g p (owner_of x (turn n)) parts.0) (kept_served n f (owner_of x) g p (kept x)))
 
-pub invariant-of-self-in-default : goal.invariant-of-self-in-default
-invariant-of-self-in-default c =
+pub invariant_of-self-in_default : goal.invariant_of-self-in_default
+invariant_of-self-in_default c =
     let x = c.args.self.now in
     let m = table_meaning x in
     let n = x.register.slot.0 in
@@ -35,7 +35,7 @@ invariant-of-self-in-default c =
     let g = label_of x in
     let ok : serve_verdict m ≡ None = search rules in
     let slot = c.tick.ensures.slot ∙ ap (λ v. after v n (n + 1)) ok in
-    let none : table_choice x ≡ None = sym c.in-default.ensures.value in
+    let none : table_choice x ≡ None = sym c.in_default.ensures.value in
     kept_along _ (n + 1) _ f _ (owner_of x) _ g slot (ap contracts_of c.tick.ensures.table) refl refl
     (kept_stepped n f (owner_of x) g (terms x.register) (λ q h. cell_none m q (g q) (λ e. refl) (ap (cell_of m) (sym (owner_is q (owner_of x (turn n)) h)) ∙ none)) (kept x))
 

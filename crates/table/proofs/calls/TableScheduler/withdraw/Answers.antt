@@ -24,29 +24,29 @@ consent None b p e = absurd (let z : ◌≡◌ {A = ℕ} 0 1 = cc in omega arith
 consent (Some c) true p e = absurd (let z : ◌≡◌ {A = ℕ} 0 1 = cc in omega arith)
 consent (Some c) false p e = refl
 
-pub invariant-of-self : goal.invariant-of-self
-invariant-of-self c =
+pub invariant_of-self : goal.invariant_of-self
+invariant_of-self c =
     let x = c.args.self.now in
     let p = c.args.party in
     let n = x.register.slot.0 in
     let f = contract_of x in
     let v = withdraw_rule (f p) c.holds-holds.result in
-    let same = c.withdraw.ensures.contracts ∙ sym (after_err v p _ f f (updated f p None) (sym c.in-err-withdraw.ensures.answer) refl) in
+    let same = c.withdraw.ensures.contracts ∙ sym (after_err v p _ f f (updated f p None) (sym c.in_err-withdraw.ensures.answer) refl) in
     kept_along _ n _ f _ (owner_of x) _ (label_of x) (ap (λ t. t.0) c.withdraw.ensures.slot) same refl refl (kept x)
 
-pub returns-in-err-withdraw : goal.returns-in-err-withdraw
-returns-in-err-withdraw c =
+pub returns-in_err-withdraw : goal.returns-in_err-withdraw
+returns-in_err-withdraw c =
     let x = c.args.self.now in
     let m = table_meaning x in
     let p = c.args.party in
     let f = contract_of x in
     let g = label_of x in
-    let e = c.in-err-withdraw.field-0.0 in
+    let e = c.in_err-withdraw.field-0.0 in
     let h : c.holds-holds.result ≡ holds_of m p = c.holds-holds.ensures in
     let v = withdraw_rule (f p) c.holds-holds.result in
-    let was : Refuses v p e = sym c.in-err-withdraw.ensures.answer in
+    let was : Refuses v p e = sym c.in_err-withdraw.ensures.answer in
     let all : Refuses (withdraw_verdict m p) p e = subst (λ b. Refuses (withdraw_rule (f p) b) p e) h was in
-    let q = err_from_is_err_and c.from-residual.result c.from-residual.ensures.1 in
+    let q = err_from_is_err_and c.from_residual.result c.from_residual.ensures.1 in
     let same = c.withdraw.ensures.contracts ∙ sym (after_err v p e f f (updated f p None) was refl) in
     record {
       answer = q.1 ∙ ap Err q.2 ∙ told_err (withdraw_verdict m p) p tt e all;
@@ -54,14 +54,14 @@ returns-in-err-withdraw c =
       owners = after_err (withdraw_verdict m p) p e (owner_of x) (owner_of x) _ all refl;
     }
 
-pub invariant-of-self-2 : goal.invariant-of-self-2
-invariant-of-self-2 c =
+pub invariant_of-self-2 : goal.invariant_of-self-2
+invariant_of-self-2 c =
     let x = c.args.self.now in
     let p = c.args.party in
     let n = x.register.slot.0 in
     let f = contract_of x in
     let b = c.holds-holds.result in
-    let told-so = c.in-ok-withdraw.ensures.answer in
+    let told-so = c.in_ok-withdraw.ensures.answer in
     let ok = consent (f p) b p told-so in
     let none = is_none (label_of x p) (sym (holds_is x p) ∙ sym c.holds-holds.ensures ∙ not_held (f p) b p told-so) in
     let cs = c.withdraw.ensures.contracts ∙ ap (λ v. after v f (updated f p None)) ok in
@@ -76,7 +76,7 @@ returns c =
     let g = label_of x in
     let b = c.holds-holds.result in
     let h : b ≡ holds_of m p = c.holds-holds.ensures in
-    let told-so = c.in-ok-withdraw.ensures.answer in
+    let told-so = c.in_ok-withdraw.ensures.answer in
     let was = consent (f p) b p told-so in
     let ok : withdraw_verdict m p ≡ None = subst (λ b. withdraw_rule (f p) b ≡ None) h was in
     let none = is_none (g p) (sym (holds_is x p) ∙ sym h ∙ not_held (f p) b p told-so) in

@@ -10,10 +10,10 @@ loop-turn-init c = (mod-eq_of_lt c.offsets-test.true, λ k h e. absurd (omega (a
 pub offsets-preserved : goal.offsets-preserved
 offsets-preserved c =
     let within : c.loop-turn.turn < 128 = omega arith in
-    below_more _ _ c.offsets.invariant (c.loop-turn.turn, within, c.loop-turn.invariant.0, sym c.if-is-some.ensures)
+    below_more _ _ c.offsets.invariant (c.loop-turn.turn, within, c.loop-turn.invariant.0, sym c.if-is_some.ensures)
 
 pub loop-turn-preserved : goal.loop-turn-preserved
 loop-turn-preserved c = (
   add-mod_right c.loop-turn.turn c.args.period ∙ c.loop-turn.invariant.0,
-  free_more (owner_in c.args.self.now.turns) c.args.period c.offsets.offset c.loop-turn.turn c.loop-turn.invariant.0 c.loop-turn.invariant.1 (sym c.if-is-some.ensures),
+  free_more (owner_in c.args.self.now.turns) c.args.period c.offsets.offset c.loop-turn.turn c.loop-turn.invariant.0 c.loop-turn.invariant.1 (sym c.if-is_some.ensures),
 )

@@ -11,11 +11,11 @@ busy_at : (x : Table) (p : ℕ) (o : Option ℕ) → label_of x p ≡ o → is_s
 busy_at x p None e h = absurd (both_ways false refl h)
 busy_at x p (Some l) e h = busy_some x p l e
 
-pub returns-then-is-some : goal.returns-then-is-some
-returns-then-is-some c =
+pub returns-then-is_some : goal.returns-then-is_some
+returns-then-is_some c =
     let x = c.args.self.now in
     let p = c.loop-label.label-index in
-    sym (busy_at x p (label_of x p) refl (sym c.if-is-some.ensures))
+    sym (busy_at x p (label_of x p) refl (sym c.if-is_some.ensures))
 
 pub returns : goal.returns
 returns c =

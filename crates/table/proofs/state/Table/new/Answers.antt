@@ -21,10 +21,15 @@ nothing n xs e = fun_ext (λ k. ap (λ ys. get_or ys k None) e ∙ at k (cases_l
     at k (inr l) = get_or_past (replicate n none) k none (omega (arith, length-replicate n none))
 
 first : Kept 0 (λ q. None) no_owner (λ q. None)
-first = ((λ k. refl), ((λ q k. omega (arith, wait_most no_owner q k)), ((λ q. omega arith), ((λ q. refl), tt))))
+first = record {
+  tenants = λ k. refl;
+  recurring = λ q k. omega (arith, wait_most no_owner q k);
+  prompt = λ q. omega arith;
+  dated = λ q. refl;
+}
 
-pub invariant-of-result : goal.invariant-of-result
-invariant-of-result c = kept_along _ 0 _ (λ q. None) _ no_owner _ (λ q. None) c.new.ensures.slot c.new.ensures.contracts (nothing 128 c.new-2.result.turns c.new-2.ensures) (nothing 16 c.new-3.result.parties c.new-3.ensures) first
+pub invariant_of-result : goal.invariant_of-result
+invariant_of-result c = kept_along _ 0 _ (λ q. None) _ no_owner _ (λ q. None) c.new.ensures.slot c.new.ensures.contracts (nothing 128 c.new-2.result.turns c.new-2.ensures) (nothing 16 c.new-3.result.parties c.new-3.ensures) first
 
 pub returns : goal.returns
 returns c = record {
