@@ -7,11 +7,11 @@ use Rattle.sp.specs.States.{sp_meaning}
 use Rattle.sp.specs.Keeps.{sound, sound_same, withdrawal}
 use Rattle.sp.proofs.calls.SpScheduler.withdraw.Goals as goal
 
-pub invariant-of-self : goal.invariant-of-self
-invariant-of-self c =
+pub invariant_of-self : goal.invariant_of-self
+invariant_of-self c =
     let s = c.args.self.now in
     let w = sound_same _ _ _ _ _ _ (ap (λ t. t.0) c.withdraw.ensures.slot) c.withdraw.ensures.table refl (withdrawal s c.args.party c.holds-holds.result c.holds-holds.ensures) in
-    (w.orderly.single, (w.orderly.spaced, (w.orderly.agreed, (w.orderly.fits, (w.tested, (w.ended, tt))))))
+    record { single = w.orderly.single; spaced = w.orderly.spaced; agreed = w.orderly.agreed; fits = w.orderly.fits; tested = w.tested; ended = w.ended }
 
 pub returns : goal.returns
 returns c =
