@@ -1,5 +1,5 @@
 -- What holds of every path.
-use Rattle.std.specs.Prelude.{◌≡◌, ℕ, ◌+◌, ◌<◌, ◌≤◌, List, length, Some, None, Option, slice_index}
+use Rattle.std.specs.Prelude.{◌≡◌, ℕ, ◌+◌, ◌<◌, ◌≤◌, length, Some, None, slice_index}
 use Rattle.scheduler.specs.Meaning.{last_slot}
 use Rattle.paths.specs.Route.{Route, Terms, Place, constant, rest, deadline}
 

@@ -2,7 +2,6 @@
 use Rattle.std.specs.Prelude.{◌≡◌, ℕ, ◌+◌, ◌≤◌, Bool, true, false, cond, ◌⊎◌, is_some, Some, None, Option, nat_lt}
 use Rattle.cells.specs.declared.times.Slot.{Slot}
 use Rattle.scheduler.specs.Meaning.{some_below}
-use Rattle.paths.specs.declared.trail.Trail.{Trail}
 use Rattle.paths.specs.Route.{Route, Terms, Place}
 use Rattle.paths.specs.Verdicts.{within}
 

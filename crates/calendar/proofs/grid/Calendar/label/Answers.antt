@@ -5,16 +5,16 @@ use Rattle.calendar.proofs.Grids.{label_read}
 use Rattle.calendar.proofs.Waits.{waiting_in, waiting_out}
 use Rattle.calendar.proofs.grid.Calendar.label.Goals as goal
 
-pub returns-then-not-has-room : goal.returns-then-not-has-room
-returns-then-not-has-room c =
+pub returns-then-not-has_room : goal.returns-then-not-has_room
+returns-then-not-has_room c =
     let s = c.args.self.now in
-    let none : room (now_of s) c.args.party c.args.slot.0 ≡ false = sym {b = room (now_of s) c.args.party c.args.slot.0} c.if-not-has-room.ensures in
+    let none : room (now_of s) c.args.party c.args.slot.0 ≡ false = sym {b = room (now_of s) c.args.party c.args.slot.0} c.if-not-has_room.ensures in
     sym (waiting_out s c.args.party c.args.slot.0 none)
 
 pub returns : goal.returns
 returns c =
     let s = c.args.self.now in
     let p = c.args.party in
-    let free : room (now_of s) p c.args.slot.0 ≡ true = sym c.if-not-has-room.ensures in
-    let within : c.day-of.result < length s.days = search rules in
-    sym (waiting_in s p c.args.slot.0 free ∙ ap (λ k. label_at s.days k p) (sym c.day-of.ensures) ∙ label_read s.days c.day-of.result p _ within)
+    let free : room (now_of s) p c.args.slot.0 ≡ true = sym c.if-not-has_room.ensures in
+    let within : c.day_of.result < length s.days = search rules in
+    sym (waiting_in s p c.args.slot.0 free ∙ ap (λ k. label_at s.days k p) (sym c.day_of.ensures) ∙ label_read s.days c.day_of.result p _ within)

@@ -15,22 +15,22 @@ use Rattle.ends.proofs.Outcomes.{trails_set, made_sound}
 use Rattle.ends.proofs.Steps.{arrival_is, arrival_far, arrival_near, route_entered, tracked_entered}
 use Rattle.ends.proofs.calls.EndPath.enter.Goals as goal
 
-pub returns-in-err-trail : goal.returns-in-err-trail
-returns-in-err-trail c =
+pub returns-in_err-trail : goal.returns-in_err-trail
+returns-in_err-trail c =
     let x = c.args.self.now in
     let r = end_route x in
     let n = now_of x.waiting in
     let ts = trail_of x.trails in
     let w = waiting_of x.waiting in
     let a = c.args.arrival.0 in
-    let h = c.in-ok-cell.cell in
+    let h = c.in_ok-cell.cell in
     let p = h.party in
     let e = a + h.ahead.0 in
-    let f = c.in-err-trail.field-0.0 in
-    let read : header_of c.args.header.now ≡ Ok h = sym c.in-ok-cell.ensures.value in
+    let f = c.in_err-trail.field-0.0 in
+    let read : header_of c.args.header.now ≡ Ok h = sym c.in_ok-cell.ensures.value in
     let far : arrival_at (ts p) (w p) n p c.eligible-eligible.result.0 ≡ arrival_at (ts p) (w p) n p e = arrival_far (ts p) (w p) n p e c.eligible-eligible.result.0 (slots_range x.waiting) c.eligible-eligible.ensures in
-    let all : enter_verdict r c.args.header.now a ≡ Some f = ap (λ o. header_rule r o a) read ∙ sym (arrival_is n x.first ts w c.requires p e) ∙ sym far ∙ c.in-err-trail.ensures.answer in
-    let q = err_from_is_err_and c.from-residual-in-err-trail.result c.from-residual-in-err-trail.ensures.1 in
+    let all : enter_verdict r c.args.header.now a ≡ Some f = ap (λ o. header_rule r o a) read ∙ sym (arrival_is n x.first ts w c.requires p e) ∙ sym far ∙ c.in_err-trail.ensures.answer in
+    let q = err_from_is_err_and c.from_residual-in_err-trail.result c.from_residual-in_err-trail.ensures.1 in
     record {
       kept = c.requires;
       answer = q.1 ∙ ap Err q.2 ∙ ap answered (sym all);
@@ -45,16 +45,16 @@ returns c =
     let ts = trail_of x.trails in
     let w = waiting_of x.waiting in
     let a = c.args.arrival.0 in
-    let h = c.in-ok-cell.cell in
+    let h = c.in_ok-cell.cell in
     let p = h.party in
     let e = a + h.ahead.0 in
     let d = c.eligible-eligible.result in
-    let y = c.in-ok-trail.trail in
+    let y = c.in_ok-trail.trail in
     let z = c.entering.result in
     let slots = slots_range x.waiting in
-    let read : header_of c.args.header.now ≡ Ok h = sym c.in-ok-cell.ensures.value in
-    let has : ts p ≡ Some y = c.in-ok-trail.ensures.answer.0 in
-    let clear : arrival_at (ts p) (w p) n p d.0 ≡ None = c.in-ok-trail.ensures.answer.1 in
+    let read : header_of c.args.header.now ≡ Ok h = sym c.in_ok-cell.ensures.value in
+    let has : ts p ≡ Some y = c.in_ok-trail.ensures.answer.0 in
+    let clear : arrival_at (ts p) (w p) n p d.0 ≡ None = c.in_ok-trail.ensures.answer.1 in
     let near = arrival_near y (w p) n p e d.0 slots c.eligible-eligible.ensures (ap (λ o. arrival_at o (w p) n p d.0) (sym has) ∙ clear) in
     let at = near.0 in
     let low = near.1 in

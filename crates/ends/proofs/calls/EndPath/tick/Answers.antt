@@ -15,11 +15,11 @@ returns-in-Some c =
     let x = c.args.self.now in
     let r = end_route x in
     let n = now_of x.waiting in
-    let ss = c.send-nothing.new.sends in
+    let ss = c.send_nothing.new.sends in
     let low : n ≤ last_slot = search rules in
     let ok : tick_verdict r ≡ None = search rules in
     let came = c.in-Some.ensures.answer in
-    let z : End = record { first = x.first; waiting = c.next-day.new.self; trails = c.deliver.new.self } in
+    let z : End = record { first = x.first; waiting = c.next_day.new.self; trails = c.deliver.new.self } in
     let notes : (p : ℕ) → Noted (trail_of x.trails p) (waiting_of x.waiting p n) n (trail_of z.trails p) =
     λ p. subst (λ d. Noted (trail_of x.trails p) d n (trail_of z.trails p)) (came p) (subst (λ t. Noted (trail_of x.trails p) (get_or c.in-Some.row p None) t (trail_of z.trails p)) c.slot-slot.ensures (c.deliver.ensures.trails p)) in
     let route = end_ticked x z c.requires ss low refl c.in-Some.ensures.slot c.in-Some.ensures.cells notes in
@@ -28,25 +28,25 @@ returns-in-Some c =
       answer = ap answered (sym ok);
       becomes = route ∙ ap (λ v. unless v r (ticked r ss)) (sym ok);
       deliveries = subst (λ v. Delivers v r c.args.deliveries.now c.deliver.new.deliveries) (sym ok) (λ p. c.deliver.ensures.table p ∙ ap (delivery_entry p) (came p ∙ sym (delivers n x.first (trail_of x.trails) (waiting_of x.waiting) c.requires p)));
-      sends = subst (λ v. Sends v r c.args.sends.now ss) (sym ok) (record { front = c.send-nothing.ensures.front; sends = λ k y e. absurd (none_some (c.send-nothing.ensures.rest (x.first + k) (omega arith)) e) });
+      sends = subst (λ v. Sends v r c.args.sends.now ss) (sym ok) (record { front = c.send_nothing.ensures.front; sends = λ k y e. absurd (none_some (c.send_nothing.ensures.rest (x.first + k) (omega arith)) e) });
     }
 
-pub returns-in-default : goal.returns-in-default
-returns-in-default c =
+pub returns-in_default : goal.returns-in_default
+returns-in_default c =
     let x = c.args.self.now in
     let r = end_route x in
     let n = now_of x.waiting in
-    let ss = c.send-nothing.new.sends in
+    let ss = c.send_nothing.new.sends in
     let low : n ≤ last_slot = search rules in
     let ok : tick_verdict r ≡ None = search rules in
-    let came = c.in-default.ensures.answer in
-    let z : End = record { first = x.first; waiting = c.next-day.new.self; trails = x.trails } in
+    let came = c.in_default.ensures.answer in
+    let z : End = record { first = x.first; waiting = c.next_day.new.self; trails = x.trails } in
     let notes : (p : ℕ) → Noted (trail_of x.trails p) (waiting_of x.waiting p n) n (trail_of x.trails p) = λ p. not_noted _ _ _ n refl (sym (came p)) in
-    let route = end_ticked x z c.requires ss low refl c.in-default.ensures.slot c.in-default.ensures.cells notes in
+    let route = end_ticked x z c.requires ss low refl c.in_default.ensures.slot c.in_default.ensures.cells notes in
     record {
-      kept = sound_ticked x z c.requires ss low refl c.in-default.ensures.slot c.in-default.ensures.cells notes;
+      kept = sound_ticked x z c.requires ss low refl c.in_default.ensures.slot c.in_default.ensures.cells notes;
       answer = ap answered (sym ok);
       becomes = route ∙ ap (λ v. unless v r (ticked r ss)) (sym ok);
       deliveries = subst (λ v. Delivers v r c.args.deliveries.now (replicate 16 None)) (sym ok) (λ p. blank 16 p ∙ ap (delivery_entry p) (came p ∙ sym (delivers n x.first (trail_of x.trails) (waiting_of x.waiting) c.requires p)));
-      sends = subst (λ v. Sends v r c.args.sends.now ss) (sym ok) (record { front = c.send-nothing.ensures.front; sends = λ k y e. absurd (none_some (c.send-nothing.ensures.rest (x.first + k) (omega arith)) e) });
+      sends = subst (λ v. Sends v r c.args.sends.now ss) (sym ok) (record { front = c.send_nothing.ensures.front; sends = λ k y e. absurd (none_some (c.send_nothing.ensures.rest (x.first + k) (omega arith)) e) });
     }
