@@ -3,8 +3,8 @@ use Rattle.scheduler.specs.Meaning.{put_verdict}
 use Rattle.hops.proofs.RowSteps.{row_verdict, row_all}
 use Rattle.hops.proofs.moving.put_row.Goals as goal
 
-pub put-one-requires : goal.put-one-requires
-put-one-requires g c κs l e =
+pub put_one-requires : goal.put_one-requires
+put_one-requires g c l e =
     let row = c.args.row.now in
     let i = c.loop-party.party in
     ap (λ m. put_verdict m i) c.loop-party.invariant ∙ row_verdict (λ p. get_or row p None) (g.S.Scheduler.meaning c.args.scheduler.now) i ∙ c.requires i l e

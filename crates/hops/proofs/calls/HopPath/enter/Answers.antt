@@ -10,13 +10,13 @@ pub returns-in-None : goal.returns-in-None
 returns-in-None g c =
     let h = c.args.self.now in
     let k = parts_of g.S.Scheduler.meaning g.P.Path.route h in
-    let arrived = c.in-ok-arrived.arrived in
+    let arrived = c.in_ok-arrived.arrived in
     let p = arrived.party in
     let e = c.args.arrival.0 + arrived.ahead.0 in
     let l = arrived.label in
     let a = c.args.arrival.0 in
     let lev = c.requires.0.level in
-    let read : header_of c.args.header.now ≡ Ok arrived = sym c.read.ensures.value ∙ c.in-ok-arrived.was in
+    let read : header_of c.args.header.now ≡ Ok arrived = sym c.read.ensures.value ∙ c.in_ok-arrived.was in
     let none : k.crossings p ≡ None = sym c.of.ensures.value ∙ c.in-None.is in
     let becomes = c.enter.ensures.becomes ∙ (λ i. unless (header_rule k.behind (read i) a) k.behind (entered_by k.behind (read i) a)) in
     record {

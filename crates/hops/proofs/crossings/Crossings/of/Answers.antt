@@ -2,8 +2,8 @@ use Rattle.std.proofs.Common.{◌≤◌, length, None, arith, rules}
 use Rattle.std.proofs.lemmas.List.{get_or_past}
 use Rattle.hops.proofs.crossings.Crossings.of.Goals as goal
 
-pub returns-then-party-gt-LAST-PARTY : goal.returns-then-party-gt-LAST-PARTY
-returns-then-party-gt-LAST-PARTY c =
+pub returns-then-party-gt-LAST_PARTY : goal.returns-then-party-gt-LAST_PARTY
+returns-then-party-gt-LAST_PARTY c =
     let past : length c.args.self.now.parties ≤ c.args.party = omega (arith, c.args.self.now.whole) in
     let none = get_or_past c.args.self.now.parties c.args.party None past in
     search rules

@@ -1,4 +1,4 @@
-use Rattle.std.proofs.Common.{◌≡◌, sym, ap, ◌∙◌, subst}
+use Rattle.std.proofs.Common.{◌≡◌, eqb-true, sym, ap, ◌∙◌, subst}
 use Rattle.calendar.specs.Days.{now_of, waiting_of}
 use Rattle.hops.specs.Crossed.{crossings_of}
 use Rattle.hops.specs.Hops.{parts_of}
@@ -13,7 +13,7 @@ pub hold-requires : goal.hold-requires
 hold-requires g c =
     let h = c.args.self.now in
     let k = parts_of g.S.Scheduler.meaning g.P.Path.route h in
-    let now = c.eq.ensures.0 c.if-eq.true ∙ c.slot.ensures ∙ c.requires.sound.days in
+    let now = eqb-true c.args.eligible.0 c.slot.result.0 (sym c.eq.ensures ∙ c.if-eq.true) ∙ c.slot.ensures ∙ c.requires.sound.days in
     record {
       party = c.requires.party;
       consent = puts_consent k c.requires.sound.level c.args.arrived.party (g.met.S.Scheduler.past h.scheduler) c.args.crossing c.requires.crosses c.args.eligible.0 c.requires.consent now;
@@ -30,7 +30,7 @@ returns-then-eq g c =
     let x' = c.taking.result in
     let lev = c.requires.sound.level in
     let past = g.met.S.Scheduler.past h.scheduler in
-    let now = c.eq.ensures.0 c.if-eq.true ∙ c.slot.ensures ∙ c.requires.sound.days in
+    let now = eqb-true c.args.eligible.0 c.slot.result.0 (sym c.eq.ensures ∙ c.if-eq.true) ∙ c.slot.ensures ∙ c.requires.sound.days in
     let same = same_on c.entering-noted.ensures.same c.taking.ensures.same in
     let later = subst (Later x.trail.latest e) (sym c.taking.ensures.latest) (later_by x.trail.latest c.entering-noted.result.trail.latest c.args.eligible c.entering-noted.ensures.latest) in
     let o = c.hold.ensures in

@@ -15,24 +15,24 @@ use Rattle.hops.proofs.hop.Hop.cross.Goals as goal
 abbrev parts_of : (g : given.Over) → Hop g.row.S.Denot g.row.P.Denot → Parts
 parts_of g h = parts h.number h.link.0 (g.S.Scheduler.meaning h.scheduler) (waiting_of h.waiting) (crossings_of h.crossings) (g.P.Path.route h.behind)
 
-pub returns-in-err-room : goal.returns-in-err-room
-returns-in-err-room g c =
+pub returns-in_err-room : goal.returns-in_err-room
+returns-in_err-room g c =
     let h = c.args.self.now in
-    let f = err_from_is_err_and c.from-residual.result c.from-residual.ensures.1 in
+    let f = err_from_is_err_and c.from_residual.result c.from_residual.ensures.1 in
     let o = no_room (parts_of g h) c.requires.sound.level (g.met.S.Scheduler.contracted h.scheduler) c.args.party c.args.trail.spacing.0 c.args.bounds.now c.args.trail.lead.0 c.requires.checked
     (g.S.Scheduler.test h.scheduler) (g.P.Path.tests h.behind) c.args.bound.0 c.requires.bound c.requires.crossed
-    (now_of h.waiting) c.from-residual.result c.in-err-room.field-0.0 c.requires.sound (sym c.room.ensures ∙ c.in-err-room.was) (f.1 ∙ ap Err f.2) in
+    (now_of h.waiting) c.from_residual.result c.in_err-room.field-0.0 c.requires.sound (sym c.room.ensures ∙ c.in_err-room.was) (f.1 ∙ ap Err f.2) in
     record { kept = o.kept; behind = c.requires.behind; answer = o.answer; becomes = o.becomes }
 
-pub returns-in-err-numbered : goal.returns-in-err-numbered
-returns-in-err-numbered g c =
+pub returns-in_err-numbered : goal.returns-in_err-numbered
+returns-in_err-numbered g c =
     let h = c.args.self.now in
-    let x = c.from-residual-in-err-numbered in
+    let x = c.from_residual-in_err-numbered in
     let f = err_from_is_err_and x.result x.ensures.1 in
     let o = no_consent (parts_of g h) c.requires.sound.level (g.met.S.Scheduler.contracted h.scheduler) c.args.party c.args.trail.spacing.0 c.args.bounds.now c.args.trail.lead.0 c.requires.checked
     (g.S.Scheduler.test h.scheduler) (g.P.Path.tests h.behind) c.args.bound.0 c.requires.bound c.requires.crossed
-    c.in-ok-room.field-0 (sym c.room.ensures ∙ c.in-ok-room.was)
-    (now_of h.waiting) (g.S.Scheduler.meaning c.grant.new.self) x.result c.in-err-numbered.field-0.0 c.requires.sound (sym (ap (numbered_as h.number) c.grant.ensures.answer) ∙ sym c.numbered.ensures ∙ c.in-err-numbered.was) c.grant.ensures.becomes (f.1 ∙ ap Err f.2) in
+    c.in_ok-room.field-0 (sym c.room.ensures ∙ c.in_ok-room.was)
+    (now_of h.waiting) (g.S.Scheduler.meaning c.grant.new.self) x.result c.in_err-numbered.field-0.0 c.requires.sound (sym (ap (numbered_as h.number) c.grant.ensures.answer) ∙ sym c.numbered.ensures ∙ c.in_err-numbered.was) c.grant.ensures.becomes (f.1 ∙ ap Err f.2) in
     record { kept = o.kept; behind = c.requires.behind; answer = o.answer; becomes = o.becomes }
 
 pub settled-requires : goal.settled-requires
@@ -40,20 +40,20 @@ settled-requires g c =
     let h = c.args.self.now in
     undoing (parts_of g h) c.requires.sound.level (g.met.S.Scheduler.contracted h.scheduler) c.args.party c.args.trail.spacing.0 c.args.bounds.now c.args.trail.lead.0 c.requires.checked
     (g.S.Scheduler.test h.scheduler) (g.P.Path.tests h.behind) c.args.bound.0 c.requires.bound c.requires.crossed
-    c.in-ok-room.field-0 (sym c.room.ensures ∙ c.in-ok-room.was)
-    c.in-ok-numbered.field-0 (sym (ap (numbered_as h.number) c.grant.ensures.answer) ∙ sym c.numbered.ensures ∙ c.in-ok-numbered.was) (g.S.Scheduler.meaning c.grant.new.self) c.grant.ensures.becomes
+    c.in_ok-room.field-0 (sym c.room.ensures ∙ c.in_ok-room.was)
+    c.in_ok-numbered.field-0 (sym (ap (numbered_as h.number) c.grant.ensures.answer) ∙ sym c.numbered.ensures ∙ c.in_ok-numbered.was) (g.S.Scheduler.meaning c.grant.new.self) c.grant.ensures.becomes
 
-pub returns-in-err-settled : goal.returns-in-err-settled
-returns-in-err-settled g c =
+pub returns-in_err-settled : goal.returns-in_err-settled
+returns-in_err-settled g c =
     let h = c.args.self.now in
-    let x = c.from-residual-in-err-settled in
+    let x = c.from_residual-in_err-settled in
     let f = err_from_is_err_and x.result x.ensures.1 in
     let o = refused_behind (parts_of g h) c.requires.sound.level (g.met.S.Scheduler.contracted h.scheduler) c.args.party c.args.trail.spacing.0 c.args.bounds.now c.args.trail.lead.0 c.requires.checked
     (g.S.Scheduler.test h.scheduler) (g.P.Path.tests h.behind) c.args.bound.0 c.requires.bound c.requires.crossed
-    c.in-ok-room.field-0 (sym c.room.ensures ∙ c.in-ok-room.was)
-    c.in-ok-numbered.field-0 (sym (ap (numbered_as h.number) c.grant.ensures.answer) ∙ sym c.numbered.ensures ∙ c.in-ok-numbered.was) (g.S.Scheduler.meaning c.grant.new.self) c.grant.ensures.becomes
+    c.in_ok-room.field-0 (sym c.room.ensures ∙ c.in_ok-room.was)
+    c.in_ok-numbered.field-0 (sym (ap (numbered_as h.number) c.grant.ensures.answer) ∙ sym c.numbered.ensures ∙ c.in_ok-numbered.was) (g.S.Scheduler.meaning c.grant.new.self) c.grant.ensures.becomes
     c.onward-answer.result (g.P.Path.route c.onward-answer.new.behind) c.onward-answer.ensures.answer c.onward-answer.ensures.becomes
-    (now_of h.waiting) (g.S.Scheduler.meaning c.settled.new.scheduler) x.result c.in-err-settled.field-0.0 c.requires.sound c.settled.ensures.becomes (sym c.settled.ensures.same ∙ c.in-err-settled.was) (f.1 ∙ ap Err f.2) in
+    (now_of h.waiting) (g.S.Scheduler.meaning c.settled.new.scheduler) x.result c.in_err-settled.field-0.0 c.requires.sound c.settled.ensures.becomes (sym c.settled.ensures.same ∙ c.in_err-settled.was) (f.1 ∙ ap Err f.2) in
     record { kept = o.kept; behind = c.onward-answer.ensures.kept; answer = o.answer; becomes = o.becomes }
 
 pub unreachable-requires : goal.unreachable-requires
@@ -61,21 +61,21 @@ unreachable-requires g c =
     let h = c.args.self.now in
     let r = rest_is (parts_of g h) c.requires.sound.level (g.met.S.Scheduler.contracted h.scheduler) c.args.party c.args.trail.spacing.0 c.args.bounds.now c.args.trail.lead.0 c.requires.checked
     (g.S.Scheduler.test h.scheduler) (g.P.Path.tests h.behind) c.args.bound.0 c.requires.bound c.requires.crossed
-    c.in-ok-room.field-0 (sym c.room.ensures ∙ c.in-ok-room.was)
-    c.in-ok-numbered.field-0 (sym (ap (numbered_as h.number) c.grant.ensures.answer) ∙ sym c.numbered.ensures ∙ c.in-ok-numbered.was) (g.S.Scheduler.meaning c.grant.new.self) c.grant.ensures.becomes
+    c.in_ok-room.field-0 (sym c.room.ensures ∙ c.in_ok-room.was)
+    c.in_ok-numbered.field-0 (sym (ap (numbered_as h.number) c.grant.ensures.answer) ∙ sym c.numbered.ensures ∙ c.in_ok-numbered.was) (g.S.Scheduler.meaning c.grant.new.self) c.grant.ensures.becomes
     c.onward-answer.result (g.P.Path.route c.onward-answer.new.behind) c.onward-answer.ensures.answer c.onward-answer.ensures.becomes
-    c.in-ok-settled.field-0 (sym c.settled.ensures.same ∙ c.in-ok-settled.was) in
-    none_some (sym c.constant.ensures ∙ c.in-default.is) r
+    c.in_ok-settled.field-0 (sym c.settled.ensures.same ∙ c.in_ok-settled.was) in
+    none_some (sym c.constant.ensures ∙ c.in_default.is) r
 
-pub crossing-of-crossing-requires : goal.crossing-of-crossing-requires
-crossing-of-crossing-requires g c =
+pub crossing_of-crossing-requires : goal.crossing_of-crossing-requires
+crossing_of-crossing-requires g c =
     let h = c.args.self.now in
     let r = rest_is (parts_of g h) c.requires.sound.level (g.met.S.Scheduler.contracted h.scheduler) c.args.party c.args.trail.spacing.0 c.args.bounds.now c.args.trail.lead.0 c.requires.checked
     (g.S.Scheduler.test h.scheduler) (g.P.Path.tests h.behind) c.args.bound.0 c.requires.bound c.requires.crossed
-    c.in-ok-room.field-0 (sym c.room.ensures ∙ c.in-ok-room.was)
-    c.in-ok-numbered.field-0 (sym (ap (numbered_as h.number) c.grant.ensures.answer) ∙ sym c.numbered.ensures ∙ c.in-ok-numbered.was) (g.S.Scheduler.meaning c.grant.new.self) c.grant.ensures.becomes
+    c.in_ok-room.field-0 (sym c.room.ensures ∙ c.in_ok-room.was)
+    c.in_ok-numbered.field-0 (sym (ap (numbered_as h.number) c.grant.ensures.answer) ∙ sym c.numbered.ensures ∙ c.in_ok-numbered.was) (g.S.Scheduler.meaning c.grant.new.self) c.grant.ensures.becomes
     c.onward-answer.result (g.P.Path.route c.onward-answer.new.behind) c.onward-answer.ensures.answer c.onward-answer.ensures.becomes
-    c.in-ok-settled.field-0 (sym c.settled.ensures.same ∙ c.in-ok-settled.was) in
+    c.in_ok-settled.field-0 (sym c.settled.ensures.same ∙ c.in_ok-settled.was) in
     let e = ap (λ (x : Span). x.0) (some_same (sym c.constant.ensures ∙ c.in-Some.is) r) in
     let b = bound_most (parts_of g h) c.requires.sound.level c.args.party c.args.trail.spacing.0 c.args.bounds.now c.args.trail.lead.0 c.requires.checked in
     let m = rest_most (parts_of g h) c.requires.sound.level c.args.party c.args.trail.spacing.0 c.args.bounds.now c.args.trail.lead.0 c.requires.checked in
@@ -86,19 +86,19 @@ returns g c =
     let h = c.args.self.now in
     let r = rest_is (parts_of g h) c.requires.sound.level (g.met.S.Scheduler.contracted h.scheduler) c.args.party c.args.trail.spacing.0 c.args.bounds.now c.args.trail.lead.0 c.requires.checked
     (g.S.Scheduler.test h.scheduler) (g.P.Path.tests h.behind) c.args.bound.0 c.requires.bound c.requires.crossed
-    c.in-ok-room.field-0 (sym c.room.ensures ∙ c.in-ok-room.was)
-    c.in-ok-numbered.field-0 (sym (ap (numbered_as h.number) c.grant.ensures.answer) ∙ sym c.numbered.ensures ∙ c.in-ok-numbered.was) (g.S.Scheduler.meaning c.grant.new.self) c.grant.ensures.becomes
+    c.in_ok-room.field-0 (sym c.room.ensures ∙ c.in_ok-room.was)
+    c.in_ok-numbered.field-0 (sym (ap (numbered_as h.number) c.grant.ensures.answer) ∙ sym c.numbered.ensures ∙ c.in_ok-numbered.was) (g.S.Scheduler.meaning c.grant.new.self) c.grant.ensures.becomes
     c.onward-answer.result (g.P.Path.route c.onward-answer.new.behind) c.onward-answer.ensures.answer c.onward-answer.ensures.becomes
-    c.in-ok-settled.field-0 (sym c.settled.ensures.same ∙ c.in-ok-settled.was) in
+    c.in_ok-settled.field-0 (sym c.settled.ensures.same ∙ c.in_ok-settled.was) in
     let e = ap (λ (x : Span). x.0) (some_same (sym c.constant.ensures ∙ c.in-Some.is) r) in
-    let x = c.crossing-of-crossing.result in
-    let y = c.crossing-of-crossing.ensures in
+    let x = c.crossing_of-crossing.result in
+    let y = c.crossing_of-crossing.ensures in
     let o = granted-whole (parts_of g h) c.requires.sound.level (g.met.S.Scheduler.contracted h.scheduler) c.args.party c.args.trail.spacing.0 c.args.bounds.now c.args.trail.lead.0 c.requires.checked
     (g.S.Scheduler.test h.scheduler) (g.P.Path.tests h.behind) c.args.bound.0 c.requires.bound c.requires.crossed
-    c.in-ok-room.field-0 (sym c.room.ensures ∙ c.in-ok-room.was)
-    c.in-ok-numbered.field-0 (sym (ap (numbered_as h.number) c.grant.ensures.answer) ∙ sym c.numbered.ensures ∙ c.in-ok-numbered.was) (g.S.Scheduler.meaning c.grant.new.self) c.grant.ensures.becomes
+    c.in_ok-room.field-0 (sym c.room.ensures ∙ c.in_ok-room.was)
+    c.in_ok-numbered.field-0 (sym (ap (numbered_as h.number) c.grant.ensures.answer) ∙ sym c.numbered.ensures ∙ c.in_ok-numbered.was) (g.S.Scheduler.meaning c.grant.new.self) c.grant.ensures.becomes
     c.onward-answer.result (g.P.Path.route c.onward-answer.new.behind) c.onward-answer.ensures.answer c.onward-answer.ensures.becomes
-    c.in-ok-settled.field-0 (sym c.settled.ensures.same ∙ c.in-ok-settled.was)
+    c.in_ok-settled.field-0 (sym c.settled.ensures.same ∙ c.in_ok-settled.was)
     (now_of h.waiting) (g.S.Scheduler.meaning c.settled.new.scheduler) (crossings_of c.set.new.self) x (Ok tt) c.requires.sound c.settled.ensures.becomes c.set.ensures
     (ap (λ (t : Trail). t.spacing.0) y.trail) (ap (λ (t : Trail). t.lead.0) y.trail) (ap (λ (b : Span). b.0) y.bound) (y.constant ∙ ap (λ n. c.args.bound.0 + h.link.0 + n) e)
     (ap (λ (t : Trail). t.latest) y.trail ∙ c.requires.latest) (ap (λ (t : Trail). t.last) y.trail ∙ c.requires.last) refl in

@@ -9,7 +9,7 @@ returns-in-Some g c =
     let h = c.args.self.now in
     let k = parts_of g.S.Scheduler.meaning g.P.Path.route h in
     let x = c.in-Some.crossing in
-    c.still-on.ensures ∙ ap (still x.trail.latest x.constant.0) (c.slot.ensures ∙ c.requires.sound.days) ∙ sym (holds_crossed k c.requires.sound.level c.args.party x (sym c.of.ensures.value ∙ c.in-Some.is))
+    c.still_on.ensures ∙ ap (still x.trail.latest x.constant.0) (c.slot.ensures ∙ c.requires.sound.days) ∙ sym (holds_crossed k c.requires.sound.level c.args.party x (sym c.of.ensures.value ∙ c.in-Some.is))
 
 pub returns-in-None : goal.returns-in-None
 returns-in-None g c =

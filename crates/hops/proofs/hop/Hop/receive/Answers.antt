@@ -8,17 +8,17 @@ use Rattle.hops.specs.Joined.{joined}
 use Rattle.hops.proofs.Arrivals.{trail_rule, rule_here}
 use Rattle.hops.proofs.hop.Hop.receive.Goals as goal
 
-pub returns-in-err-eligible : goal.returns-in-err-eligible
-returns-in-err-eligible g c =
+pub returns-in_err-eligible : goal.returns-in_err-eligible
+returns-in_err-eligible g c =
     let h = c.args.self.now in
     let k = parts_of g.S.Scheduler.meaning g.P.Path.route h in
     let p = c.args.arrived.party in
     let e = c.args.arrival.0 + c.args.arrived.ahead.0 in
-    let q = err_from_is_err_and c.from-residual.result c.from-residual.ensures.1 in
-    let rule : arrival_rule (joined k) ((joined k).contracts p) p e ≡ Some c.in-err-eligible.field-0.0 =
+    let q = err_from_is_err_and c.from_residual.result c.from_residual.ensures.1 in
+    let rule : arrival_rule (joined k) ((joined k).contracts p) p e ≡ Some c.in_err-eligible.field-0.0 =
     sym (rule_here k c.requires.sound.level p (g.met.S.Scheduler.past h.scheduler) c.args.crossing c.requires.crosses e)
     ∙ ap (λ n. trail_rule n c.args.crossing (waiting_of h.waiting p) p e) (sym c.requires.sound.days)
-    ∙ sym c.in-err-eligible.ensures.verdict in
+    ∙ sym c.in_err-eligible.ensures.verdict in
     record {
       kept = c.requires.sound;
       behind = c.requires.behind;
@@ -32,7 +32,7 @@ accept-requires g c =
     let k = parts_of g.S.Scheduler.meaning g.P.Path.route h in
     let p = c.args.arrived.party in
     let e = c.args.arrival.0 + c.args.arrived.ahead.0 in
-    let t = c.in-ok-eligible.ensures in
+    let t = c.in_ok-eligible.ensures in
     record {
       sound = c.requires.sound;
       behind = c.requires.behind;
@@ -52,7 +52,7 @@ returns g c =
     let p = c.args.arrived.party in
     let e = c.args.arrival.0 + c.args.arrived.ahead.0 in
     let l = c.args.arrived.label in
-    let t = c.in-ok-eligible.ensures in
+    let t = c.in_ok-eligible.ensures in
     let rule : arrival_rule (joined k) ((joined k).contracts p) p e ≡ None =
     sym (rule_here k c.requires.sound.level p (g.met.S.Scheduler.past h.scheduler) c.args.crossing c.requires.crosses e)
     ∙ ap (λ n. trail_rule n c.args.crossing (waiting_of h.waiting p) p e) (sym c.requires.sound.days)

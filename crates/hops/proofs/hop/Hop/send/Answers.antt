@@ -9,35 +9,35 @@ use Rattle.hops.proofs.hop.Hop.send.Goals as goal
 
 pub unreachable-requires : goal.unreachable-requires
 unreachable-requires g c =
-    let r = c.requires.ready c.in-ok-cell.cell c.in-ok-cell.was in
-    none_some (sym c.of.ensures.value ∙ c.in-default.is) r.crosses
+    let r = c.requires.ready c.in_ok-cell.cell c.in_ok-cell.was in
+    none_some (sym c.of.ensures.value ∙ c.in_default.is) r.crosses
 
-pub header-of-header-requires : goal.header-of-header-requires
-header-of-header-requires g c =
-    let r = c.requires.ready c.in-ok-cell.cell c.in-ok-cell.was in
+pub header_of-header-requires : goal.header_of-header-requires
+header_of-header-requires g c =
+    let r = c.requires.ready c.in_ok-cell.cell c.in_ok-cell.was in
     let x : r.crossing ≡ c.in-Some.crossing = some_same r.crosses (sym c.of.ensures.value ∙ c.in-Some.is) in
     record {
       slots = omega (arith, r.slots);
       bounded = c.in-Some.crossing.bounded;
       prompt = c.in-Some.crossing.prompt;
       ready = r.eligible;
-      timely = subst (λ (x : Crossing). c.args.slot.0 ≤ due c.in-ok-cell.cell.eligible.0 x.bound.0) x r.timely;
+      timely = subst (λ (x : Crossing). c.args.slot.0 ≤ due c.in_ok-cell.cell.eligible.0 x.bound.0) x r.timely;
     }
 
-pub arrival-of-requires : goal.arrival-of-requires
-arrival-of-requires g c =
-    let r = c.requires.ready c.in-ok-cell.cell c.in-ok-cell.was in
+pub arrival_of-requires : goal.arrival_of-requires
+arrival_of-requires g c =
+    let r = c.requires.ready c.in_ok-cell.cell c.in_ok-cell.was in
     record { slots = r.slots; link = c.args.self.now.short }
 
 pub forward-requires : goal.forward-requires
 forward-requires g c =
-    let r = c.requires.ready c.in-ok-cell.cell c.in-ok-cell.was in
+    let r = c.requires.ready c.in_ok-cell.cell c.in_ok-cell.was in
     let x : r.crossing ≡ c.in-Some.crossing = some_same r.crosses (sym c.of.ensures.value ∙ c.in-Some.is) in
-    let h = c.header-of-header.ensures in
+    let h = c.header_of-header.ensures in
     let b = g.P.Path.route c.args.self.now.behind in
     let d = ap (λ (x : Crossing). x.bound.0) x in
-    let p = c.in-ok-cell.cell.party in
-    let at : c.in-ok-cell.cell.eligible.0 + r.crossing.bound.0 + c.args.self.now.link.0 ≡ c.arrival-of.result.0 + c.header-of-header.result.ahead.0 = omega (arith, h.ahead, d, c.arrival-of.ensures, c.in-Some.crossing.bounded) in
+    let p = c.in_ok-cell.cell.party in
+    let at : c.in_ok-cell.cell.eligible.0 + r.crossing.bound.0 + c.args.self.now.link.0 ≡ c.arrival_of.result.0 + c.header_of-header.result.ahead.0 = omega (arith, h.ahead, d, c.arrival_of.ensures, c.in-Some.crossing.bounded) in
     record {
       sound = c.requires.sound;
       party = subst (λ p. p ≤ 15) (sym h.party) r.party;
@@ -47,12 +47,12 @@ forward-requires g c =
 
 pub returns : goal.returns
 returns g c =
-    let r = c.requires.ready c.in-ok-cell.cell c.in-ok-cell.was in
-    let h = c.header-of-header.ensures in
+    let r = c.requires.ready c.in_ok-cell.cell c.in_ok-cell.was in
+    let h = c.header_of-header.ensures in
     let b = g.P.Path.route c.args.self.now.behind in
     let x = c.in-Some.crossing in
-    let cell = c.in-ok-cell.cell in
-    let at : c.arrival-of.result.0 + c.header-of-header.result.ahead.0 ≡ cell.eligible.0 + x.bound.0 + c.args.self.now.link.0 = omega (arith, h.ahead, c.arrival-of.ensures, x.bounded) in
+    let cell = c.in_ok-cell.cell in
+    let at : c.arrival_of.result.0 + c.header_of-header.result.ahead.0 ≡ cell.eligible.0 + x.bound.0 + c.args.self.now.link.0 = omega (arith, h.ahead, c.arrival_of.ensures, x.bounded) in
     record {
       number = refl;
       link = refl;
@@ -60,7 +60,7 @@ returns g c =
       waiting = refl;
       crossings = refl;
       kept = c.forward.ensures.kept;
-      handed = handed_some (λ p. get_or c.args.self.now.crossings.parties p None) c.args.self.now.link.0 c.args.slot.0 c.args.served cell x c.header-of-header.result b (g.P.Path.route c.forward.new.behind)
-          c.in-ok-cell.was (sym c.of.ensures.value ∙ c.in-Some.is) (record { party = h.party; ahead = h.ahead; label = h.label })
+      handed = handed_some (λ p. get_or c.args.self.now.crossings.parties p None) c.args.self.now.link.0 c.args.slot.0 c.args.served cell x c.header_of-header.result b (g.P.Path.route c.forward.new.behind)
+          c.in_ok-cell.was (sym c.of.ensures.value ∙ c.in-Some.is) (record { party = h.party; ahead = h.ahead; label = h.label })
           (c.forward.ensures.becomes ∙ (λ i. entered b (h.party i) (at i) (h.label i)));
     }

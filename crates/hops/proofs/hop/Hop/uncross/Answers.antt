@@ -14,11 +14,11 @@ use Rattle.hops.proofs.Levels.{withdrawn_parts, withdrawn_both, level-withdrawn}
 use Rattle.hops.proofs.Withdrawals.{crossed_verdict, owns_none, sched_consents, behind_consents}
 use Rattle.hops.proofs.hop.Hop.uncross.Goals as goal
 
-pub returns-then-holds-cell : goal.returns-then-holds-cell
-returns-then-holds-cell g c =
+pub returns-then-holds_cell : goal.returns-then-holds_cell
+returns-then-holds_cell g c =
     let h = c.args.self.now in
     let k = parts_of g.S.Scheduler.meaning g.P.Path.route h in
-    let v = crossed_verdict k c.requires.sound.level c.args.party c.args.crossing c.requires.crosses true (sym c.holds-cell.ensures ∙ c.if-holds-cell.true) in
+    let v = crossed_verdict k c.requires.sound.level c.args.party c.args.crossing c.requires.crosses true (sym c.holds_cell.ensures ∙ c.if-holds_cell.true) in
     record {
       kept = c.requires.sound;
       behind = c.requires.behind;
@@ -30,7 +30,7 @@ pub unreachable-requires : goal.unreachable-requires
 unreachable-requires g c =
     let h = c.args.self.now in
     let k = parts_of g.S.Scheduler.meaning g.P.Path.route h in
-    let none : holds_of (joined k) c.args.party ≡ false = sym c.holds-cell.ensures ∙ c.if-holds-cell.false in
+    let none : holds_of (joined k) c.args.party ≡ false = sym c.holds_cell.ensures ∙ c.if-holds_cell.false in
     let v = sched_consents k c.requires.sound.level c.args.party c.args.crossing c.requires.crosses none in
     told_not _ _ _ _ v (sym c.in-Err.is ∙ c.withdraw.ensures.answer)
 
@@ -38,7 +38,7 @@ pub unreachable-requires-in-Err-withdraw : goal.unreachable-requires-in-Err-with
 unreachable-requires-in-Err-withdraw g c =
     let h = c.args.self.now in
     let k = parts_of g.S.Scheduler.meaning g.P.Path.route h in
-    let none : holds_of (joined k) c.args.party ≡ false = sym c.holds-cell.ensures ∙ c.if-holds-cell.false in
+    let none : holds_of (joined k) c.args.party ≡ false = sym c.holds_cell.ensures ∙ c.if-holds_cell.false in
     let v = behind_consents k c.requires.sound.level c.args.party c.args.crossing c.requires.crosses none in
     answered_not _ _ v (sym c.in-Err-withdraw.is ∙ c.withdraw-2.ensures.answer)
 
@@ -49,7 +49,7 @@ returns g c =
     let p = c.args.party in
     let x = c.args.crossing in
     let lev : Level k = c.requires.sound.level in
-    let none : holds_of (joined k) p ≡ false = sym c.holds-cell.ensures ∙ c.if-holds-cell.false in
+    let none : holds_of (joined k) p ≡ false = sym c.holds_cell.ensures ∙ c.if-holds_cell.false in
     let m-is : g.S.Scheduler.meaning c.withdraw.new.self ≡ sched-withdrawn k.sched p = c.withdraw.ensures.becomes ∙ ap (λ v. after v k.sched (sched-withdrawn k.sched p)) (sched_consents k lev p x c.requires.crosses none) in
     let b-is : g.P.Path.route c.withdraw-2.new.self ≡ withdrawn k.behind p = c.withdraw-2.ensures.becomes ∙ ap (λ v. unless v k.behind (withdrawn k.behind p)) (behind_consents k lev p x c.requires.crosses none) in
     let same : parts h.number h.link.0 (g.S.Scheduler.meaning c.withdraw.new.self) (waiting_of h.waiting) (crossings_of c.set.new.self) (g.P.Path.route c.withdraw-2.new.self) ≡ withdrawn_parts k lev p =
