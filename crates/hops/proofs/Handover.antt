@@ -2,7 +2,7 @@
 use Rattle.std.proofs.Common.{◌≡◌, ℕ, zero, suc, ◌+◌, ◌≤◌, true, false, cond, List, [], ◌∷◌, get_or, is_some, Some, None, Option, sym, refl, ap, ◌∙◌, subst, arith}
 use Rattle.header.specs.declared.Header.{Header}
 use Rattle.scheduler.specs.Meaning.{Meaning, due, last_slot}
-use Rattle.paths.specs.Route.{Terms, Place, MaySend, bounds_of, constant, eligible, deadline, ticked, noted, placed, further, moved, names, next, cell_after, arrived, delivery_of}
+use Rattle.paths.specs.Route.{Terms, Place, MaySend, bounds_of, eligible, deadline, ticked, noted, placed, further, moved, names, next, cell_after, arrived, delivery_of}
 use Rattle.paths.specs.Laws.{Lawful}
 use Rattle.paths.specs.Verdicts.{Sent}
 use Rattle.paths.proofs.Kept.{lawful_ticked}

@@ -4,7 +4,7 @@ use Rattle.std.proofs.lemmas.Bool.{cond-true, cond-false, eq-eqb, ne_eqb}
 use Rattle.cells.specs.declared.times.Slot.{Slot}
 use Rattle.scheduler.specs.Laws.{InTime, Contracted, InRange, Past, Since}
 use Rattle.scheduler.specs.Meaning.{Meaning, updated}
-use Rattle.paths.specs.Route.{Terms, Place, constant}
+use Rattle.paths.specs.Route.{Terms, Place}
 use Rattle.paths.specs.Trails.{Newest}
 use Rattle.hops.specs.declared.crossing.Crossing.{Crossing}
 use Rattle.hops.specs.Joined.{Parts, side, seen, from_here, joined}
