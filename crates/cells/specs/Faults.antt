@@ -47,6 +47,10 @@ layer_number Trace = 5
 layer_number Record = 6
 layer_number Header = 7
 
+-- a fault that is about a party names neither a hop nor a line
+abbrev pub party_fault : Cause → Layer → ℕ → Fault
+party_fault c l p = record { cause = c; layer = l; party = p; hop = 255; line = 0 }
+
 -- a fault of a text names its line, and neither a party nor a hop
 abbrev pub text_fault : Cause → Layer → ℕ → Fault
 text_fault c l n = record { cause = c; layer = l; party = 255; hop = 255; line = n }

@@ -1,69 +1,69 @@
 //! Faults: what was refused, why, in which layer, and where.
 
 ghost use Rattle.std.specs.Prelude.{◌≡◌, Some};
-ghost use Rattle.cells.specs.Faults.{cause_number, layer_number, fault_text, text_fault};
+ghost use Rattle.cells.specs.Faults.{cause_number, layer_number, fault_text, party_fault, text_fault};
 
 use std::fmt;
 
 /// Why a call or a text was refused.
-#[derive(Clone, Copy, Debug)]
+#[derive(Clone, Copy, PartialEq, Eq, Debug)]
 pub enum Cause {
     /// The party is above 15.
-    PartyOutOfRange,
+    PartyOutOfRange = 1,
     /// The party has a contract here already, or is listed in the booking.
-    PartyHasContract,
+    PartyHasContract = 2,
     /// The spacing is outside 1 to 1,024.
-    SpacingOutOfRange,
+    SpacingOutOfRange = 3,
     /// A bound is outside 1 to 128, or a lead outside 1 to 191.
-    BoundOutOfRange,
+    BoundOutOfRange = 4,
     /// The party crosses no hop.
-    NoHopCrossed,
+    NoHopCrossed = 5,
     /// A cell is held or on the path, so no contract can be added now.
-    CellsPresent,
+    CellsPresent = 6,
     /// The waiting cells could outgrow the calendar of 192.
-    CalendarExceeded,
+    CalendarExceeded = 7,
     /// The held cells could outgrow a scheduler's table of 128.
-    TableExceeded,
+    TableExceeded = 8,
     /// No busy period of at most 1,024 slots ends: too much work is promised.
-    NoBusyPeriod,
+    NoBusyPeriod = 9,
     /// More cells could be due within some span than it has slots.
-    DemandExceeded,
+    DemandExceeded = 10,
     /// A level and those below it could have more cells than a level's span has slots.
-    LevelExceeded,
+    LevelExceeded = 11,
     /// No offset of the period has all its turns free.
-    NoFreeOffset,
+    NoFreeOffset = 12,
     /// The party has no contract here, or is not listed in the booking.
-    NoContract,
+    NoContract = 13,
     /// The cell comes, or would leave, sooner than a spacing after another of its party.
-    TooSoon,
+    TooSoon = 14,
     /// The delivery slot would be above the last slot.
-    DeliveryPastLast,
+    DeliveryPastLast = 15,
     /// A lent table has a wrong length.
-    TableLength,
+    TableLength = 16,
     /// Every slot is over: the slot is past the last.
-    SlotsOver,
+    SlotsOver = 17,
     /// A cell of the party is held or on the path, so its contract cannot be taken back.
-    PartyHasCells,
+    PartyHasCells = 18,
     /// The eligible slot is below the path's slot, or not below slot + lead.
-    EligibleOutOfWindow,
+    EligibleOutOfWindow = 19,
     /// A header is not 6 bytes long.
-    HeaderLength,
+    HeaderLength = 20,
     /// A header's party is above 15.
-    HeaderParty,
+    HeaderParty = 21,
     /// A header's ahead span is above 127.
-    HeaderAhead,
+    HeaderAhead = 22,
     /// A text is above 32,768 bytes, or its last byte is no newline.
-    TextSizeOrEnd,
+    TextSizeOrEnd = 23,
     /// A line is not of its form.
-    LineForm,
+    LineForm = 24,
     /// A number of a line is out of range.
-    NumberOutOfRange,
+    NumberOutOfRange = 25,
     /// A line stands where it may not, or the plan as a whole lacks one.
-    LinePlace,
+    LinePlace = 26,
     /// A record line does not fit.
-    RecordFull,
+    RecordFull = 27,
     /// The chosen party has no PARTY line.
-    NoPartyLine,
+    NoPartyLine = 28,
 }
 
 impl Cause {
@@ -71,50 +71,21 @@ impl Cause {
     pub fn number(self) -> u8
         ensures { result ≡ cause_number self }
     {
-        match self {
-            Cause::PartyOutOfRange => 1,
-            Cause::PartyHasContract => 2,
-            Cause::SpacingOutOfRange => 3,
-            Cause::BoundOutOfRange => 4,
-            Cause::NoHopCrossed => 5,
-            Cause::CellsPresent => 6,
-            Cause::CalendarExceeded => 7,
-            Cause::TableExceeded => 8,
-            Cause::NoBusyPeriod => 9,
-            Cause::DemandExceeded => 10,
-            Cause::LevelExceeded => 11,
-            Cause::NoFreeOffset => 12,
-            Cause::NoContract => 13,
-            Cause::TooSoon => 14,
-            Cause::DeliveryPastLast => 15,
-            Cause::TableLength => 16,
-            Cause::SlotsOver => 17,
-            Cause::PartyHasCells => 18,
-            Cause::EligibleOutOfWindow => 19,
-            Cause::HeaderLength => 20,
-            Cause::HeaderParty => 21,
-            Cause::HeaderAhead => 22,
-            Cause::TextSizeOrEnd => 23,
-            Cause::LineForm => 24,
-            Cause::NumberOutOfRange => 25,
-            Cause::LinePlace => 26,
-            Cause::RecordFull => 27,
-            Cause::NoPartyLine => 28,
-        }
+        self as u8
     }
 }
 
 /// The layer that refused.
-#[derive(Clone, Copy, Debug)]
+#[derive(Clone, Copy, PartialEq, Eq, Debug)]
 pub enum Layer {
-    Scheduler,
+    Scheduler = 1,
     /// A hop, or the end of a path.
-    Hop,
-    Path,
-    Plan,
-    Trace,
-    Record,
-    Header,
+    Hop = 2,
+    Path = 3,
+    Plan = 4,
+    Trace = 5,
+    Record = 6,
+    Header = 7,
 }
 
 impl Layer {
@@ -122,15 +93,7 @@ impl Layer {
     pub fn number(self) -> u8
         ensures { result ≡ layer_number self }
     {
-        match self {
-            Layer::Scheduler => 1,
-            Layer::Hop => 2,
-            Layer::Path => 3,
-            Layer::Plan => 4,
-            Layer::Trace => 5,
-            Layer::Record => 6,
-            Layer::Header => 7,
-        }
+        self as u8
     }
 }
 
@@ -143,7 +106,7 @@ pub const NO_LINE: u32 = 0;
 
 /// A refusal: its cause and layer, and the party, hop and line that it is about, or 255, 255
 /// and 0 where it is about none.
-#[derive(Clone, Copy, Debug)]
+#[derive(Clone, Copy, PartialEq, Eq, Debug)]
 pub struct Fault {
     pub cause: Cause,
     pub layer: Layer,
@@ -153,16 +116,26 @@ pub struct Fault {
 }
 
 impl Fault {
+    /// A fault that is about a party: it names neither a hop nor a line.
+    pub fn of_party(cause: Cause, layer: Layer, party: u8) -> Fault
+        ensures { result ≡ party_fault cause layer party }
+    {
+        Fault {
+            cause,
+            layer,
+            party,
+            hop: NO_HOP,
+            line: NO_LINE,
+        }
+    }
+
     /// A fault of a text: it names its line, and neither a party nor a hop.
     pub fn of_text(cause: Cause, layer: Layer, line: u32) -> Fault
         ensures { result ≡ text_fault cause layer line }
     {
         Fault {
-            cause,
-            layer,
-            party: NO_PARTY,
-            hop: NO_HOP,
             line,
+            ..Fault::of_party(cause, layer, NO_PARTY)
         }
     }
 }

@@ -4,4 +4,6 @@
 
 pub mod faults;
 pub mod limits;
+pub mod makes;
+pub mod parties;
 pub mod times;
