@@ -1,7 +1,7 @@
 -- Six bytes, and the header that they are.
-use Rattle.std.proofs.Common.{◌≡◌, ℕ, ◌/◌, ◌%◌, ◌<◌, ◌≤◌, eqb, ltb, List, [], ◌∷◌, length, get_or, Ok, sym, ◌∙◌, arith}
-use Rattle.std.proofs.lemmas.Bool.{cond-true, cond-false, eq-eqb, le-ltb}
-use Rattle.header.specs.Headers.{bytes_of, header_in, label_of, checked}
+use Rattle.std.proofs.Common.{◌≡◌, ℕ, ◌/◌, ◌%◌, ◌<◌, Bool, true, false, cond, List, [], ◌∷◌, length, get_or, IfOk, Ok, Err, arith}
+use Rattle.cells.specs.declared.faults.Fault.{Fault}
+use Rattle.header.specs.Headers.{bytes_of, header_in, label_of}
 use Rattle.header.specs.declared.Header.{Header}
 
 -- the bytes of the header that six bytes are, are these bytes
@@ -24,6 +24,8 @@ six (a ∷ b ∷ c ∷ d ∷ u ∷ v ∷ []) l f =
     let pv : label_of c d u v % 256 ≡ v = omega arith in
     λ j. a ∷ b ∷ pc j ∷ pd j ∷ pu j ∷ pv j ∷ []
 
-pub checked_ok : {X : Type 0} (n : ℕ) (h : Header) (x : X) → n ≡ 6 → h.party ≤ 15 → h.ahead.0 ≤ 127 → Ok x ≡ checked n h x
-checked_ok n h x six-of party ahead =
-    sym (cond-true (eqb n 6) _ _ (eq-eqb n 6 six-of) ∙ cond-false (ltb 15 h.party) _ _ (le-ltb 15 h.party party) ∙ cond-false (ltb 127 h.ahead.0) _ _ (le-ltb 127 h.ahead.0 ahead))
+-- what holds of a header holds of it once it is checked
+pub checked_keeps : (party ahead : Bool) (x y : Fault) (h : Header) (P : Header → Type 0) → P h → IfOk (cond party (Err x) (cond ahead (Err y) (Ok h))) P
+checked_keeps true ahead x y h P p = tt {0}
+checked_keeps false true x y h P p = tt {0}
+checked_keeps false false x y h P p = p

@@ -2,9 +2,9 @@
 #![tactic(auto)]
 
 ghost use Rattle.std.specs.Prelude.{◌≡◌, IfOk, Ok, OnOk};
-ghost use Rattle.header.specs.Headers.{header_fault, bytes_of, header_of, Writes};
+ghost use Rattle.header.specs.Headers.{header_fault, bytes_of, checked, header_of, Writes};
 
-use cells::faults::{Cause, Fault, Layer, NO_HOP, NO_LINE, NO_PARTY};
+use cells::faults::{Cause, Fault, Layer, NO_PARTY};
 use cells::limits::LAST_PARTY;
 use cells::times::Span;
 
@@ -14,7 +14,7 @@ pub const LENGTH: usize = 6;
 pub const AHEAD_MAX: u32 = 127;
 
 /// What travels with a cell: its party and label, and how far ahead of its due slot it was sent.
-#[derive(Clone, Copy)]
+#[derive(Clone, Copy, PartialEq, Eq, Debug)]
 pub struct Header {
     pub party: u8,
     pub ahead: Span,
@@ -25,16 +25,23 @@ pub struct Header {
 fn refused(cause: Cause, party: u8) -> Fault
     ensures { result ≡ header_fault cause party }
 {
-    Fault {
-        cause,
-        layer: Layer::Header,
-        party,
-        hop: NO_HOP,
-        line: NO_LINE,
-    }
+    Fault::of_party(cause, Layer::Header, party)
 }
 
 impl Header {
+    /// The header, unless its party is above 15 or its ahead span above 127.
+    fn checked(self) -> Result<Header, Fault>
+        ensures { result ≡ checked 6 self self }
+    {
+        if self.party > LAST_PARTY {
+            return Err(refused(Cause::HeaderParty, self.party));
+        }
+        if self.ahead.0 > AHEAD_MAX {
+            return Err(refused(Cause::HeaderAhead, self.party));
+        }
+        Ok(self)
+    }
+
     /// Reads a header. The bytes of a header that was read are those it would be written as.
     pub fn read(bytes: &[u8]) -> Result<Header, Fault>
         ensures value { result ≡ header_of bytes.now }
@@ -43,20 +50,12 @@ impl Header {
         let [party, ahead, a, b, c, d] = bytes else {
             return Err(refused(Cause::HeaderLength, NO_PARTY));
         };
-        let party = *party;
-        let ahead = Span(u32::from(*ahead));
-        if party > LAST_PARTY {
-            return Err(refused(Cause::HeaderParty, party));
-        }
-        if ahead.0 > AHEAD_MAX {
-            return Err(refused(Cause::HeaderAhead, party));
-        }
-        let label = u32::from_be_bytes([*a, *b, *c, *d]);
-        Ok(Header {
-            party,
-            ahead,
-            label,
-        })
+        let read = Header {
+            party: *party,
+            ahead: Span(u32::from(*ahead)),
+            label: u32::from_be_bytes([*a, *b, *c, *d]),
+        };
+        read.checked()
     }
 
     /// Writes a header into six bytes. What was written is read as this header.
@@ -67,14 +66,13 @@ impl Header {
         if bytes.len() != LENGTH {
             return Err(refused(Cause::HeaderLength, NO_PARTY));
         }
-        if self.party > LAST_PARTY {
-            return Err(refused(Cause::HeaderParty, self.party));
-        }
-        if self.ahead.0 > AHEAD_MAX {
-            return Err(refused(Cause::HeaderAhead, self.party));
-        }
-        let [a, b, c, d] = self.label.to_be_bytes();
-        bytes.copy_from_slice(&[self.party, self.ahead.0 as u8, a, b, c, d]);
+        let Header {
+            party,
+            ahead,
+            label,
+        } = self.checked()?;
+        let [a, b, c, d] = label.to_be_bytes();
+        bytes.copy_from_slice(&[party, ahead.0 as u8, a, b, c, d]);
         Ok(())
     }
 }
