@@ -26,16 +26,14 @@ pub trait Order<T> {
 pub fn first<T, O: Order<T>>(order: &O, items: &[T]) -> Option<usize>
     ensures { MatchOption result (length items.now ≡ 0) (First (O.ahead order.now) items.now (length items.now)) }
 {
-    if items.is_empty() {
-        return None;
-    }
-    let mut best = 0;
-    for i in 1..items.len() {
-        if beats(order, &items[i], &items[best]) {
-            best = i;
+    let mut best = None;
+    for (i, x) in items.iter().enumerate() {
+        match best {
+            Some(first) if !beats(order, x, &items[first]) => {}
+            _ => best = Some(i),
         }
     }
-    Some(best)
+    best
 }
 
 /// Whether a record takes the place of the best before it: it has to come before that.
