@@ -6,7 +6,7 @@ ghost use Rattle.scheduler.specs.Tables.{contracts_of, Refuses, Extends};
 
 use crate::register::Register;
 use crate::terms::Contract;
-use cells::faults::{Cause, Fault, Layer, NO_HOP, NO_LINE, NO_PARTY};
+use cells::faults::{Cause, Fault, Layer, NO_PARTY};
 use cells::limits::{LAST, LAST_PARTY};
 use cells::times::{Slot, Span};
 
@@ -19,13 +19,7 @@ pub const BOUND_MAX: u32 = 128;
 pub fn refused(cause: Cause, party: u8) -> Fault
     ensures { result ≡ fault cause party }
 {
-    Fault {
-        cause,
-        layer: Layer::Scheduler,
-        party,
-        hop: NO_HOP,
-        line: NO_LINE,
-    }
+    Fault::of_party(cause, Layer::Scheduler, party)
 }
 
 /// Whether a span is below `least` or above `most` slots.
@@ -57,7 +51,7 @@ impl Register {
         if party > LAST_PARTY {
             return Err(refused(Cause::PartyOutOfRange, party));
         }
-        if let Some(_) = self.contracts[party as usize] {
+        if self.contracts[party as usize].is_some() {
             return Err(refused(Cause::PartyHasContract, party));
         }
         if out_of_range(1, SPACING_MAX, spacing) {
@@ -85,9 +79,9 @@ impl Register {
         ensures table { self.new.contracts ≡ after (withdraw_rule (contracts_of self.old.contracts party) holds) self.old.contracts (slice_set self.old.contracts party None) }
         ensures contracts { contracts_of self.new.contracts ≡ after (withdraw_rule (contracts_of self.old.contracts party) holds) (contracts_of self.old.contracts) (updated (contracts_of self.old.contracts) party None) }
     {
-        let Some(_) = self.contract(party) else {
+        if self.contract(party).is_none() {
             return Err(refused(Cause::NoContract, party));
-        };
+        }
         if holds {
             return Err(refused(Cause::PartyHasCells, party));
         }

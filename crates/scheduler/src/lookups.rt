@@ -5,7 +5,6 @@ ghost use Rattle.scheduler.specs.Tables.{contracts_of};
 
 use crate::register::Register;
 use crate::terms::Contract;
-use cells::limits::LAST_PARTY;
 use cells::times::Slot;
 
 impl Register {
@@ -21,10 +20,7 @@ impl Register {
         ensures value { result ≡ contracts_of self.now.contracts party }
         ensures within { is_some result ≡ true → party < 16 }
     {
-        if party > LAST_PARTY {
-            return None;
-        }
-        self.contracts[party as usize]
+        *self.contracts.get(party as usize)?
     }
 
     /// The contract table.
