@@ -1,5 +1,5 @@
 -- What a list of held cells holds, as cells are added and taken.
-use Rattle.std.proofs.Common.{◌≡◌, ℕ, zero, suc, ◌+◌, ◌<◌, ◌≤◌, Bool, true, false, cond, eqb, ltb, List, [], ◌∷◌, ◌++◌, length, get_or, Some, None, sum_by, Option, sym, refl, ap, ◌∙◌, subst, arith}
+use Rattle.std.proofs.Common.{◌≡◌, ℕ, zero, suc, ◌+◌, ◌<◌, ◌≤◌, Bool, true, false, cond, ◌||◌, eqb, ltb, List, [], ◌∷◌, ◌++◌, length, get_or, Some, None, sum_by, Option, sym, refl, ap, ◌∙◌, subst, arith}
 use mathlib.Core.Path.{fun_ext}
 use Rattle.std.proofs.lemmas.List.Sums.{sum_by-cons, sum_by_push, get_or-le-sum_by}
 use Rattle.std.proofs.lemmas.Bool.{eq-eqb, eqb-true, both_ways, lt-ltb}
@@ -179,7 +179,7 @@ holds_none_at : (xs : List Held) (p e : ℕ) → holds_in xs p ≡ false → hel
 holds_none_at [] p e h = refl
 holds_none_at (x ∷ xs) p e h = way (eqb p x.cell.party) h (holds_none_at xs p e)
   where
-    way : (b : Bool) → cond b true (holds_in xs p) ≡ false → (holds_in xs p ≡ false → held_in xs p e ≡ None) → cond (cond b (eqb e x.cell.eligible.0) false) (Some x.cell.label) (held_in xs p e) ≡ None
+    way : (b : Bool) → (b || holds_in xs p) ≡ false → (holds_in xs p ≡ false → held_in xs p e ≡ None) → cond (cond b (eqb e x.cell.eligible.0) false) (Some x.cell.label) (held_in xs p e) ≡ None
     way true k r = absurd (both_ways true k refl)
     way false k r = r k
 
@@ -191,7 +191,7 @@ holds_some_at : (xs : List Held) (p : ℕ) → holds_in xs p ≡ true → (e : �
 holds_some_at [] p h = absurd (both_ways false refl h)
 holds_some_at (x ∷ xs) p h = way (eqb p x.cell.party) refl h (holds_some_at xs p)
   where
-    way : (b : Bool) → eqb p x.cell.party ≡ b → cond b true (holds_in xs p) ≡ true → (holds_in xs p ≡ true → (e : ℕ) × ((l : ℕ) × (held_in xs p e ≡ Some l))) → (e : ℕ) × ((l : ℕ) × (held_in (x ∷ xs) p e ≡ Some l))
+    way : (b : Bool) → eqb p x.cell.party ≡ b → (b || holds_in xs p) ≡ true → (holds_in xs p ≡ true → (e : ℕ) × ((l : ℕ) × (held_in xs p e ≡ Some l))) → (e : ℕ) × ((l : ℕ) × (held_in (x ∷ xs) p e ≡ Some l))
     way true t k r = (x.cell.eligible.0, (x.cell.label, ap (λ q. held_in (x ∷ xs) q x.cell.eligible.0) (eqb-true p x.cell.party t) ∙ ap (λ b. cond b (Some x.cell.label) (held_in xs x.cell.party x.cell.eligible.0)) (is_itself x)))
     way false t k r = let q = r k in (q.0, some_of (is_cell p q.0 x) x.cell.label (held_in xs p q.0) q.1.0 q.1.1)
 

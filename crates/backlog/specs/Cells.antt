@@ -1,5 +1,6 @@
 -- A list of held cells.
-use Rattle.std.specs.Prelude.{◌≡◌, ℕ, ◌+◌, ◌≤◌, Bool, true, false, cond, List, [], ◌∷◌, Some, None, sum_by, Option, ◌==◌}
+use Rattle.std.specs.Prelude.{◌≡◌, ℕ, ◌+◌, ◌≤◌, Bool, false, cond, List, [], ◌∷◌, Some, None, sum_by, Option, ◌==◌}
+use Rattle.std.specs.List.{list_any}
 use Rattle.scheduler.specs.Meaning.{due}
 use Rattle.backlog.specs.declared.held.Held.{Held}
 
@@ -18,8 +19,7 @@ held_in (x ∷ xs) p e = cond (is_cell p e x) (Some x.cell.label) (held_in xs p 
 
 -- whether a cell of the party is held
 abbrev pub holds_in : List Held → ℕ → Bool
-holds_in [] p = false
-holds_in (x ∷ xs) p = cond (p == x.cell.party) true (holds_in xs p)
+holds_in xs p = list_any (λ x. p == x.cell.party) xs
 
 -- 1 for the cell of a party and an eligible slot
 abbrev pub at : ℕ → ℕ → Held → ℕ

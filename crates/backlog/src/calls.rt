@@ -59,7 +59,7 @@ impl Backlog {
     fn foremost_place<O: Order<Held>>(&self, order: &O) -> Option<usize>
         ensures { MatchOption result (cells_of self.now ≡ []) (First (O.ahead order.now) (cells_of self.now) (length (cells_of self.now))) }
     {
-        first(order, &self.places[0..self.count])
+        first(order, self.held())
     }
 
     // Takes the cell at a place out, and puts the cell at the last place into its place.

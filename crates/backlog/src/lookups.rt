@@ -18,6 +18,13 @@ impl Held {
 }
 
 impl Backlog {
+    /// The held cells, by place.
+    pub(crate) fn held(&self) -> &[Held]
+        ensures { result.now ≡ cells_of self.now }
+    {
+        &self.places[..self.count]
+    }
+
     /// How many cells are held.
     pub fn len(&self) -> usize
         ensures { result ≡ length (cells_of self.now) }
@@ -36,11 +43,6 @@ impl Backlog {
     pub fn holds(&self, party: u8) -> bool
         ensures { result ≡ holds_in (cells_of self.now) party }
     {
-        for held in &self.places[0..self.count] {
-            if held.cell.party == party {
-                return true;
-            }
-        }
-        false
+        self.held().iter().any(|held| held.cell.party == party)
     }
 }

@@ -1,5 +1,5 @@
 -- What the tests of a held cell tell.
-use Rattle.std.proofs.Common.{◌≡◌, ℕ, ◌+◌, ◌<◌, ◌≤◌, Bool, true, false, cond, eqb, leb, ◌⊎◌, List, [], ◌∷◌, sum_by, refl, ap, arith}
+use Rattle.std.proofs.Common.{◌≡◌, ℕ, ◌+◌, ◌<◌, ◌≤◌, Bool, true, false, cond, ◌||◌, eqb, leb, ◌⊎◌, List, [], ◌∷◌, sum_by, refl, ap, arith}
 use Rattle.std.proofs.lemmas.List.Sums.{sum_by-cons}
 use Rattle.std.proofs.lemmas.Bool.{both_ways}
 use Rattle.std.proofs.lemmas.Bool.Decides.{nat_tests}
@@ -56,7 +56,7 @@ pub none_since : (p a : ℕ) (xs : List Held) → holds_in xs p ≡ false → su
 none_since p a [] h = refl
 none_since p a (x ∷ xs) h = way (eqb p x.cell.party) refl h (none_since p a xs)
   where
-    way : (b : Bool) → eqb p x.cell.party ≡ b → cond b true (holds_in xs p) ≡ false → (holds_in xs p ≡ false → sum_by (put_since p a) xs ≡ 0) → sum_by (put_since p a) (x ∷ xs) ≡ 0
+    way : (b : Bool) → eqb p x.cell.party ≡ b → (b || holds_in xs p) ≡ false → (holds_in xs p ≡ false → sum_by (put_since p a) xs ≡ 0) → sum_by (put_since p a) (x ∷ xs) ≡ 0
     way true t k r = absurd (both_ways true k refl)
     way false t k r =
         let own : put_since p a x ≡ 0 = ap (λ b. cond b (cond (leb a x.cell.eligible.0) 1 0) 0) t in
