@@ -1,14 +1,12 @@
 -- What a calendar means: its slot, and of each party and slot the label of the cell that waits for it.
-use Rattle.std.specs.Prelude.{ℕ, zero, suc, List, [], ◌∷◌, None, Option, slice_index_or}
-use Rattle.calendar.specs.declared.day.Day.{Day}
+use Rattle.std.specs.Prelude.{ℕ, List, None, Option, slice_index_or}
+use Rattle.cells.specs.declared.parties.ByParty.{ByParty}
 use Rattle.calendar.specs.declared.grid.Calendar.{Calendar}
-use Rattle.calendar.specs.Rows.{window}
+use Rattle.calendar.specs.Rows.{row_of, window}
 
 -- the label of a day and a party
-abbrev pub label_at : List Day → ℕ → ℕ → Option ℕ
-label_at [] k p = None
-label_at (d ∷ ds) zero p = slice_index_or d.labels p None
-label_at (d ∷ ds) (suc k) p = label_at ds k p
+abbrev pub label_at : List (Option (ByParty ℕ)) → ℕ → ℕ → Option ℕ
+label_at ds k p = row_of (slice_index_or ds k None) p
 
 -- the present slot
 abbrev pub now_of : Calendar → ℕ

@@ -1,5 +1,6 @@
 -- Labels by party, and for which slots there is room.
-use Rattle.std.specs.Prelude.{ℕ, ◌+◌, ◌%◌, Bool, true, false, cond, List, Some, None, Option, nat_le, nat_lt, slice_index_or}
+use Rattle.std.specs.Prelude.{ℕ, ◌+◌, ◌%◌, Bool, false, cond, Some, None, Option, nat_le, nat_lt, slice_index_or}
+use Rattle.cells.specs.declared.parties.ByParty.{ByParty}
 
 -- whether a cell of party p can wait for slot e, from slot n: p is at most 15, and e is from n to n + 191
 abbrev pub room : ℕ → ℕ → ℕ → Bool
@@ -9,13 +10,7 @@ room n p e = cond (nat_le p 15) (cond (nat_le n e) (nat_lt e (n + 192)) false) f
 abbrev pub window : ℕ → (ℕ → ℕ → Option ℕ) → ℕ → ℕ → Option ℕ
 window n grid p e = cond (room n p e) (grid (e % 192) p) None
 
--- the labels of a row by party; no row is an empty one
-abbrev pub row_of : Option (List (Option ℕ)) → ℕ → Option ℕ
+-- the labels of a day by party; without any, no party has one
+abbrev pub row_of : Option (ByParty ℕ) → ℕ → Option ℕ
 row_of None p = None
-row_of (Some xs) p = slice_index_or xs p None
-
--- a label is there only on a busy day
-abbrev pub quiet : Bool → Option ℕ → Bool
-quiet true o = true
-quiet false None = true
-quiet false (Some l) = false
+row_of (Some r) p = slice_index_or r.entries p None

@@ -1,15 +1,15 @@
 //! How cells come to wait, and how slots end.
 
-ghost use Rattle.std.specs.Prelude.{◌≡◌, ℕ, ◌+◌, ◌≤◌, length, IfSome, if◌then◌else◌, Some, None, nat_eq, nat_lt};
+ghost use Rattle.std.specs.Prelude.{◌≡◌, ℕ, ◌+◌, ◌≤◌, if◌then◌else◌, Some, None, nat_eq, nat_lt};
 ghost use Rattle.scheduler.specs.Meaning.{last_slot, updated};
 ghost use Rattle.calendar.specs.Days.{now_of, waiting_of};
 ghost use Rattle.calendar.specs.Rows.{room, row_of};
 
-use crate::day::Day;
 use crate::grid::Calendar;
 use crate::keeping::{keep, take};
 use crate::lookups::day_of;
 use cells::limits::LAST;
+use cells::parties::ByParty;
 use cells::times::{Slot, Span};
 
 /// The slot after this one; past the last slot it stays.
@@ -37,10 +37,9 @@ impl Calendar {
         ensures slot { now_of result ≡ slot.0 }
         ensures cells { waiting_of result ≡ (λ p e. None) }
     {
-        let day = Day::new();
         Calendar {
             slot,
-            days: [day; 192],
+            days: [None; 192],
         }
     }
 
@@ -61,9 +60,8 @@ impl Calendar {
 
     /// Ends the present slot: answers, by party, the cells that waited for it, none if there are
     /// none, and lets them go. Past the last slot the slot stays.
-    pub fn next_day(&mut self) -> Option<[Option<u32>; 16]>
+    pub fn next_day(&mut self) -> Option<ByParty<u32>>
         ensures answer { (p : ℕ) → row_of result p ≡ waiting_of self.old p (now_of self.old) }
-        ensures whole { IfSome result (λ xs. length xs ≡ 16) }
         ensures slot { now_of self.new ≡ (if nat_lt last_slot (now_of self.old) then now_of self.old else now_of self.old + 1) }
         ensures cells { waiting_of self.new ≡ (λ p e. (if nat_eq e (now_of self.old) then None else waiting_of self.old p e)) }
     {

@@ -2,7 +2,6 @@
 #![tactic(auto)]
 
 mod calls;
-mod day;
 pub mod grid;
 mod keeping;
 mod lookups;

@@ -7,7 +7,6 @@ returns c =
     let s = c.args.self.now in
     record {
       answer = λ p. c.take-row.ensures.answer p ∙ waiting_first s c.day_of.result p c.day_of.ensures;
-      whole = c.take-row.ensures.whole;
       slot = c.following-self.ensures;
       cells = waiting_next s _ c.day_of.result c.following-self.ensures c.day_of.ensures c.take-row.ensures.empty;
     }
