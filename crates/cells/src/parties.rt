@@ -1,6 +1,7 @@
 //! One entry for each party.
 
-ghost use Rattle.std.specs.Prelude.{◌≡◌, ◌<◌, true, length, replicate, is_some, None, slice_index_or, slice_set, ⊤};
+ghost use Rattle.std.specs.Prelude.{◌≡◌, ◌<◌, true, length, replicate, is_some, is_none, None, slice_index_or, slice_set, ⊤};
+ghost use Rattle.std.specs.List.{list_all};
 
 use crate::limits::LAST_PARTY;
 use std::alloc::AllocError;
@@ -49,6 +50,13 @@ impl<T: Copy> ByParty<T> {
         if party <= LAST_PARTY {
             self.entries[usize::from(party)] = entry;
         }
+    }
+
+    /// Whether no party has an entry.
+    pub fn is_empty(&self) -> bool
+        ensures { result ≡ list_all is_none self.now.entries }
+    {
+        self.entries.iter().all(|entry| entry.is_none())
     }
 
     /// The entries, by party.

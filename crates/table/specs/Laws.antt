@@ -19,7 +19,7 @@ use Rattle.table.specs.Periods.{period_fits}
 
 -- the label kept of each party
 abbrev pub label_of : Table → ℕ → Option ℕ
-label_of x p = slice_index_or x.labels.parties p None
+label_of x p = slice_index_or x.labels.entries p None
 
 -- the contract of each party
 abbrev pub contract_of : Table → ℕ → Option Contract

@@ -14,7 +14,7 @@ abbrev pub table_meaning : Table → Meaning
 table_meaning x = record {
   slot = x.register.slot.0;
   contracts = contracts_of x.register.contracts;
-  held = λ p. held_of (last_of (contracts_of x.register.contracts p)) (slice_index_or x.labels.parties p None);
+  held = λ p. held_of (last_of (contracts_of x.register.contracts p)) (slice_index_or x.labels.entries p None);
 }
 
 -- the owner of each turn

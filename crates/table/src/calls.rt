@@ -8,11 +8,11 @@ ghost use Rattle.table.specs.Laws;
 ghost use Rattle.table.specs.Helds.{cell_chosen};
 ghost use Rattle.std.proofs.Common.{rules, arith};
 
-use crate::labels::Labels;
 use crate::owners::Owners;
 use crate::search::period;
 use crate::state::Table;
 use cells::faults::{Cause, Fault};
+use cells::parties::ByParty;
 use cells::times::{Slot, Span};
 use scheduler::Scheduler;
 use scheduler::changes::refused;
@@ -28,7 +28,7 @@ impl Table {
         Table {
             register: Register::new(),
             owners: Owners::new(),
-            labels: Labels::new(),
+            labels: ByParty::new(),
         }
     }
 }
@@ -98,7 +98,7 @@ impl Scheduler for Table {
         ensures owners { owner_of self.new ≡ owner_of self.old }
     {
         self.register.put(party)?;
-        self.labels.keep(party, label);
+        self.labels.set(party, Some(label));
         Ok(())
     }
 
@@ -111,7 +111,7 @@ impl Scheduler for Table {
         let choice = self.choice();
         self.register.tick()?;
         if let Some(cell) = choice {
-            self.labels.clear(cell.party);
+            self.labels.set(cell.party, None);
         }
         Ok(choice)
     }

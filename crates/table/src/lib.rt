@@ -3,9 +3,7 @@
 #![tactic(auto)]
 
 pub mod calls;
-mod keeping;
-pub mod labels;
-mod lookups;
+pub mod lookups;
 pub mod owners;
 mod search;
 pub mod state;

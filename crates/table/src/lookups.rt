@@ -5,7 +5,6 @@ ghost use Rattle.scheduler.specs.Meaning.{holds_of, holds_any};
 ghost use Rattle.table.specs.Tables.{table_meaning, table_choice};
 
 use crate::state::Table;
-use cells::limits::LAST_PARTY;
 use scheduler::terms::Cell;
 
 impl Table {
@@ -13,22 +12,14 @@ impl Table {
     pub(crate) fn busy(&self) -> bool
         ensures { result ≡ holds_any (table_meaning self.now) }
     {
-        for label in &self.labels.parties {
-            if label.is_some() {
-                return true;
-            }
-        }
-        false
+        !self.labels.is_empty()
     }
 
     /// Whether a cell of the party is held.
     pub(crate) fn holds(&self, party: u8) -> bool
         ensures { result ≡ holds_of (table_meaning self.now) party }
     {
-        if party > LAST_PARTY {
-            return false;
-        }
-        self.labels.parties[party as usize].is_some()
+        self.labels.get(party).is_some()
     }
 
     /// The held cell of the present turn's owner, if any.
@@ -38,7 +29,7 @@ impl Table {
     {
         let party = self.owners.owner(self.register.slot())?;
         let eligible = self.register.contract(party)?.last?;
-        let label = self.labels.parties[party as usize]?;
+        let label = self.labels.get(party)?;
         Some(Cell {
             party,
             label,

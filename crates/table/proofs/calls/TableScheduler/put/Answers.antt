@@ -46,9 +46,6 @@ invariant_of-self c =
     let same = c.put.ensures.contracts ∙ sym (after_err (put_rule (f p) n) p _ f f (updated f p (used (f p) n)) c.in_err-put.ensures.answer refl) in
     kept_along _ n _ f _ (owner_of x) _ (label_of x) (ap (λ t. t.0) c.put.ensures.slot) same refl refl (kept x)
 
-pub keep-requires : goal.keep-requires
-keep-requires c = omega (arith, party c.args.self.now.register c.args.party c.in_ok-put.field-0 c.in_ok-put.ensures.answer.0)
-
 pub invariant_of-self-2 : goal.invariant_of-self-2
 invariant_of-self-2 c =
     let x = c.args.self.now in
@@ -61,9 +58,9 @@ invariant_of-self-2 c =
     let ok = c.in_ok-put.ensures.answer.1 in
     let whole = x.labels.whole in
     let low = party x.register p t is in
-    let within : p < length x.labels.parties = omega arith in
+    let within : p < length x.labels.entries = omega arith in
     let cs = c.put.ensures.contracts ∙ ap (λ v. after v f (updated f p (used (f p) n))) ok ∙ ap (λ o. updated f p (used o n)) is in
-    let gs = ap (λ ls q. get_or ls q None) c.keep.ensures ∙ table-set (λ o. o) x.labels.parties p (Some l) None within in
+    let gs = ap (λ ls q. get_or ls q None) c.set.ensures ∙ table-set (λ o. o) x.labels.entries p (Some l) None within in
     kept_along _ n _ (updated f p (Some (stamped t n))) _ (owner_of x) _ (updated (label_of x) p (Some l)) (ap (λ t. t.0) c.put.ensures.slot) cs refl gs (kept_put n f (owner_of x) (label_of x) p l t is (kept x))
 
 pub returns : goal.returns
@@ -79,11 +76,11 @@ returns c =
     let ok : put_verdict (table_meaning x) p ≡ None = c.in_ok-put.ensures.answer.1 in
     let whole = x.labels.whole in
     let low = party x.register p t is in
-    let within : p < length x.labels.parties = omega arith in
+    let within : p < length x.labels.entries = omega arith in
     let cs = c.put.ensures.contracts ∙ ap (λ v. after v f (updated f p (used (f p) n))) ok in
-    let gs = ap (λ ls q. get_or ls q None) c.keep.ensures ∙ table-set (λ o. o) x.labels.parties p (Some l) None within in
+    let gs = ap (λ ls q. get_or ls q None) c.set.ensures ∙ table-set (λ o. o) x.labels.entries p (Some l) None within in
     let held =
-    ap (λ h. held_by h (λ q. get_or c.keep.new.self.parties q None)) (cs ∙ ap (λ o. updated f p (used o n)) is)
+    ap (λ h. held_by h (λ q. get_or c.set.new.self.entries q None)) (cs ∙ ap (λ o. updated f p (used o n)) is)
     ∙ ap (held_by (updated f p (Some (stamped t n)))) gs
     ∙ held_put f g p l (stamped t n) (record { 0 = n }) refl (free_to_put x p t is ok)
     in

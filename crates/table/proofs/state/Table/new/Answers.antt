@@ -29,10 +29,10 @@ first = record {
 }
 
 pub invariant_of-result : goal.invariant_of-result
-invariant_of-result c = kept_along _ 0 _ (λ q. None) _ no_owner _ (λ q. None) c.new.ensures.slot c.new.ensures.contracts (nothing 128 c.new-2.result.turns c.new-2.ensures) (nothing 16 c.new-3.result.parties c.new-3.ensures) first
+invariant_of-result c = kept_along _ 0 _ (λ q. None) _ no_owner _ (λ q. None) c.new.ensures.slot c.new.ensures.contracts (nothing 128 c.new-2.result.turns c.new-2.ensures) (nothing 16 c.new-3.result.entries c.new-3.ensures) first
 
 pub returns : goal.returns
 returns c = record {
-  meaning = same_meaning _ _ _ _ _ _ c.new.ensures.slot c.new.ensures.contracts (ap (λ f. held_by f (λ q. get_or c.new-3.result.parties q None)) c.new.ensures.contracts);
+  meaning = same_meaning _ _ _ _ _ _ c.new.ensures.slot c.new.ensures.contracts (ap (λ f. held_by f (λ q. get_or c.new-3.result.entries q None)) c.new.ensures.contracts);
   owners = nothing 128 c.new-2.result.turns c.new-2.ensures;
 }
