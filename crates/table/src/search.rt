@@ -54,12 +54,10 @@ impl Owners {
         ensures { Found (owner_in self.now.turns) period result }
     {
         'offsets: for offset in 0..period {
-            let mut turn = offset;
-            while turn < TURNS {
+            for turn in (offset..TURNS).step_by(period) {
                 if self.turns[turn].is_some() {
                     continue 'offsets;
                 }
-                turn += period;
             }
             return Some(offset);
         }
@@ -71,9 +69,9 @@ impl Owners {
         requires { 1 ≤ period }
         ensures { owner_in self.new.turns ≡ assigned (owner_in self.old.turns) period offset party }
     {
-        for turn in 0..TURNS {
+        for (turn, owner) in self.turns.iter_mut().enumerate() {
             if turn % period == offset {
-                self.turns[turn] = Some(party);
+                *owner = Some(party);
             }
         }
     }
@@ -82,11 +80,9 @@ impl Owners {
     pub(crate) fn release(&mut self, party: u8)
         ensures { owner_in self.new.turns ≡ released (owner_in self.old.turns) party }
     {
-        for turn in 0..TURNS {
-            if let Some(owner) = self.turns[turn] {
-                if owner == party {
-                    self.turns[turn] = None;
-                }
+        for owner in &mut self.turns {
+            if *owner == Some(party) {
+                *owner = None;
             }
         }
     }
