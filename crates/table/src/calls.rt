@@ -8,6 +8,7 @@ ghost use Rattle.table.specs.Laws;
 ghost use Rattle.table.specs.Helds.{cell_chosen};
 ghost use Rattle.std.proofs.Common.{rules, arith};
 
+use crate::keeping::{clear, keep};
 use crate::owners::Owners;
 use crate::search::period;
 use crate::state::Table;
@@ -98,7 +99,7 @@ impl Scheduler for Table {
         ensures owners { owner_of self.new ≡ owner_of self.old }
     {
         self.register.put(party)?;
-        self.labels.set(party, Some(label));
+        keep(&mut self.labels, party, label);
         Ok(())
     }
 
@@ -111,7 +112,7 @@ impl Scheduler for Table {
         let choice = self.choice();
         self.register.tick()?;
         if let Some(cell) = choice {
-            self.labels.set(cell.party, None);
+            clear(&mut self.labels, cell.party);
         }
         Ok(choice)
     }

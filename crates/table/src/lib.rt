@@ -3,7 +3,8 @@
 #![tactic(auto)]
 
 pub mod calls;
-pub mod lookups;
+pub mod keeping;
+mod lookups;
 pub mod owners;
 mod search;
 pub mod state;

@@ -60,7 +60,7 @@ invariant_of-self-2 c =
     let low = party x.register p t is in
     let within : p < length x.labels.entries = omega arith in
     let cs = c.put.ensures.contracts ∙ ap (λ v. after v f (updated f p (used (f p) n))) ok ∙ ap (λ o. updated f p (used o n)) is in
-    let gs = ap (λ ls q. get_or ls q None) c.set.ensures ∙ table-set (λ o. o) x.labels.entries p (Some l) None within in
+    let gs = ap (λ ls q. get_or ls q None) c.keep.ensures ∙ table-set (λ o. o) x.labels.entries p (Some l) None within in
     kept_along _ n _ (updated f p (Some (stamped t n))) _ (owner_of x) _ (updated (label_of x) p (Some l)) (ap (λ t. t.0) c.put.ensures.slot) cs refl gs (kept_put n f (owner_of x) (label_of x) p l t is (kept x))
 
 pub returns : goal.returns
@@ -78,9 +78,9 @@ returns c =
     let low = party x.register p t is in
     let within : p < length x.labels.entries = omega arith in
     let cs = c.put.ensures.contracts ∙ ap (λ v. after v f (updated f p (used (f p) n))) ok in
-    let gs = ap (λ ls q. get_or ls q None) c.set.ensures ∙ table-set (λ o. o) x.labels.entries p (Some l) None within in
+    let gs = ap (λ ls q. get_or ls q None) c.keep.ensures ∙ table-set (λ o. o) x.labels.entries p (Some l) None within in
     let held =
-    ap (λ h. held_by h (λ q. get_or c.set.new.self.entries q None)) (cs ∙ ap (λ o. updated f p (used o n)) is)
+    ap (λ h. held_by h (λ q. get_or c.keep.new.labels.entries q None)) (cs ∙ ap (λ o. updated f p (used o n)) is)
     ∙ ap (held_by (updated f p (Some (stamped t n)))) gs
     ∙ held_put f g p l (stamped t n) (record { 0 = n }) refl (free_to_put x p t is ok)
     in

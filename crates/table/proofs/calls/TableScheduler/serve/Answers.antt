@@ -23,7 +23,7 @@ invariant_of-self-in-Some c =
     let within : p < length x.labels.entries = omega (arith, c.in-Some.ensures.within) in
     let slot = c.tick.ensures.slot ∙ ap (λ v. after v n (n + 1)) ok in
     let parts = cell_parts (table_meaning x) (owner_of x (turn n)) c.in-Some.cell (sym c.in-Some.ensures.value) in
-    kept_along _ (n + 1) _ f _ (owner_of x) _ (updated g p None) slot (ap contracts_of c.tick.ensures.table) refl (ap (λ ls q. get_or ls q None) c.set.ensures ∙ table-set (λ o. o) x.labels.entries p None None within)
+    kept_along _ (n + 1) _ f _ (owner_of x) _ (updated g p None) slot (ap contracts_of c.tick.ensures.table) refl (ap (λ ls q. get_or ls q None) c.clear.ensures ∙ table-set (λ o. o) x.labels.entries p None None within)
     (kept_stepped n f (owner_of x) (updated g p None) (terms x.register) (served_out f g p (owner_of x (turn n)) parts.0) (kept_served n f (owner_of x) g p (kept x)))
 
 pub invariant_of-self-in_default : goal.invariant_of-self-in_default
@@ -54,9 +54,9 @@ returns-in-Some c =
     let value : Some c.in-Some.cell ≡ table_choice x = c.in-Some.ensures.value in
     let parts = cell_parts m (owner_of x (turn n)) c.in-Some.cell (sym value) in
     let cs = ap contracts_of c.tick.ensures.table in
-    let gs = ap (λ ls q. get_or ls q None) c.set.ensures ∙ table-set (λ o. o) x.labels.entries p None None within in
+    let gs = ap (λ ls q. get_or ls q None) c.clear.ensures ∙ table-set (λ o. o) x.labels.entries p None None within in
     let held =
-    ap (λ h. held_by h (λ q. get_or c.set.new.self.entries q None)) cs
+    ap (λ h. held_by h (λ q. get_or c.clear.new.labels.entries q None)) cs
     ∙ ap (held_by f) gs
     ∙ held_served f g c.in-Some.cell parts.1
     ∙ ap (without (held_by f g)) value
