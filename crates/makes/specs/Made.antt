@@ -1,7 +1,7 @@
 -- What a scheduler of any make means.
 use Rattle.scheduler.specs.Meaning.{Meaning}
 use Rattle.switch.specs.Makes.{pick}
-use Rattle.switch.specs.declared.make.Make.{Make}
+use Rattle.cells.specs.declared.makes.Make.{Make}
 use Rattle.switch.specs.declared.state.Switch.{Switch}
 use Rattle.edf.specs.States.{edf_meaning}
 use Rattle.edf.specs.declared.state.Edf.{Edf}

@@ -3,7 +3,7 @@
 
 ghost use Rattle.std.specs.Prelude.{◌≡◌};
 ghost use Rattle.scheduler.specs.Meaning.{fresh};
-ghost use Rattle.switch.specs.Makes.{make_of};
+ghost use Rattle.cells.specs.Makes.{make_of};
 ghost use Rattle.makes.specs.Made.{numbered, meaning_of_any};
 
 use edf::state::Edf;

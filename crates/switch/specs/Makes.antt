@@ -1,11 +1,7 @@
--- The make that a switch behaves as.
-use Rattle.std.specs.Prelude.{◌≡◌, ℕ, cond, ◌==◌}
-use Rattle.switch.specs.declared.make.Make.{Make}
-use Rattle.switch.specs.declared.make.Make.TheVariants.{Edf, Sp, Table}
-
--- 0 is EDF, 1 is SP, every other number is TABLE
-abbrev pub make_of : ℕ → Make
-make_of n = cond (n == 0) Edf (cond (n == 1) Sp Table)
+-- What belongs to the make that a switch behaves as, and what does not.
+use Rattle.std.specs.Prelude.{◌≡◌}
+use Rattle.cells.specs.declared.makes.Make.{Make}
+use Rattle.cells.specs.declared.makes.Make.TheVariants.{Edf, Sp, Table}
 
 -- what belongs to the make, of what belongs to EDF, to SP and to TABLE
 abbrev pub pick : {X : Type 0} → Make → X → X → X → X

@@ -1,6 +1,6 @@
 -- What holds of each make holds of the one picked.
-use Rattle.switch.specs.declared.make.Make.{Make}
-use Rattle.switch.specs.declared.make.Make.TheVariants.{Edf, Sp, Table}
+use Rattle.cells.specs.declared.makes.Make.{Make}
+use Rattle.cells.specs.declared.makes.Make.TheVariants.{Edf, Sp, Table}
 use Rattle.switch.specs.Makes.{pick}
 
 pub pick_each : {X : Type 0} (P : X → Type 0) (k : Make) (a b c : X) → P a → P b → P c → P (pick k a b c)

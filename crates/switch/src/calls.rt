@@ -2,15 +2,16 @@
 
 ghost use Rattle.std.specs.Prelude.{◌≡◌, ℕ, Option};
 ghost use Rattle.scheduler.specs.Meaning.{fresh, told, after, granted, grant_verdict, withdrawn, withdraw_verdict, filled, put_verdict, stepped, serve_verdict};
-ghost use Rattle.switch.specs.Makes.{make_of, pick, Aside};
+ghost use Rattle.cells.specs.Makes.{make_of};
+ghost use Rattle.switch.specs.Makes.{pick, Aside};
 ghost use Rattle.scheduler.specs.Laws.{InTime, InRange, Past, Consents, Own};
 ghost use Rattle.switch.specs.Picks.{pick_each, pick_both};
 ghost use Rattle.cells.specs.declared.faults.Cause.{Cause};
 ghost use Rattle.std.proofs.Common.{rules};
 
-use crate::make::Make;
 use crate::state::Switch;
 use cells::faults::Fault;
+use cells::makes::Make;
 use cells::times::{Slot, Span};
 use scheduler::Scheduler;
 use scheduler::terms::{Cell, Contract};
@@ -25,7 +26,7 @@ impl<E: Scheduler, S: Scheduler, T: Scheduler> Switch<E, S, T> {
         ensures table { result.table ≡ table }
     {
         Switch {
-            make: Make::of(number),
+            make: Make::from(number),
             edf,
             sp,
             table,
@@ -33,6 +34,8 @@ impl<E: Scheduler, S: Scheduler, T: Scheduler> Switch<E, S, T> {
     }
 }
 
+// Each call is a match: the rules have a switch hold one scheduler of each make, all three of types
+// of their own, and a reference to the one meant could be handed out only as a `dyn`.
 impl<E: Scheduler, S: Scheduler, T: Scheduler> Scheduler for Switch<E, S, T> {
     ghost meaning = { λ x. pick x.make (E.Scheduler.meaning x.edf) (S.Scheduler.meaning x.sp) (T.Scheduler.meaning x.table) };
 

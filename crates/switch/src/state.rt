@@ -1,6 +1,6 @@
 //! What a switch holds.
 
-use crate::make::Make;
+use cells::makes::Make;
 
 /// One scheduler of each make, and the make that the switch behaves as.
 #[derive(Drop)]
