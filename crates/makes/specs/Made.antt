@@ -1,6 +1,6 @@
 -- What a scheduler of any make means.
 use Rattle.scheduler.specs.Meaning.{Meaning}
-use Rattle.switch.specs.Makes.{pick}
+use Rattle.switch.specs.Makes.{of_make}
 use Rattle.cells.specs.declared.makes.Make.{Make}
 use Rattle.switch.specs.declared.state.Switch.{Switch}
 use Rattle.edf.specs.States.{edf_meaning}
@@ -16,4 +16,4 @@ numbered x = x.make
 
 -- what that make means
 abbrev pub meaning_of_any : Switch Edf Sp Table → Meaning
-meaning_of_any x = pick x.make (edf_meaning x.edf) (sp_meaning x.sp) (table_meaning x.table)
+meaning_of_any = of_make edf_meaning sp_meaning table_meaning

@@ -3,7 +3,7 @@
 ghost use Rattle.std.specs.Prelude.{◌≡◌, ℕ, Option};
 ghost use Rattle.scheduler.specs.Meaning.{fresh, told, after, granted, grant_verdict, withdrawn, withdraw_verdict, filled, put_verdict, stepped, serve_verdict};
 ghost use Rattle.cells.specs.Makes.{make_of};
-ghost use Rattle.switch.specs.Makes.{pick, Aside};
+ghost use Rattle.switch.specs.Makes.{of_make, Aside};
 ghost use Rattle.scheduler.specs.Laws.{InTime, InRange, Past, Consents, Own};
 ghost use Rattle.switch.specs.Picks.{pick_each, pick_both};
 ghost use Rattle.cells.specs.declared.faults.Cause.{Cause};
@@ -37,11 +37,11 @@ impl<E: Scheduler, S: Scheduler, T: Scheduler> Switch<E, S, T> {
 // Each call is a match: the rules have a switch hold one scheduler of each make, all three of types
 // of their own, and a reference to the one meant could be handed out only as a `dyn`.
 impl<E: Scheduler, S: Scheduler, T: Scheduler> Scheduler for Switch<E, S, T> {
-    ghost meaning = { λ x. pick x.make (E.Scheduler.meaning x.edf) (S.Scheduler.meaning x.sp) (T.Scheduler.meaning x.table) };
+    ghost meaning = { of_make E.Scheduler.meaning S.Scheduler.meaning T.Scheduler.meaning };
 
-    ghost test = { λ x. pick x.make (E.Scheduler.test x.edf) (S.Scheduler.test x.sp) (T.Scheduler.test x.table) };
+    ghost test = { of_make E.Scheduler.test S.Scheduler.test T.Scheduler.test };
 
-    ghost choice = { λ x. pick x.make (E.Scheduler.choice x.edf) (S.Scheduler.choice x.sp) (T.Scheduler.choice x.table) };
+    ghost choice = { of_make E.Scheduler.choice S.Scheduler.choice T.Scheduler.choice };
 
     ghost timely = { λ x. pick_each InTime x.make _ _ _ (E.Scheduler.timely x.edf) (S.Scheduler.timely x.sp) (T.Scheduler.timely x.table) };
 
@@ -74,8 +74,8 @@ impl<E: Scheduler, S: Scheduler, T: Scheduler> Scheduler for Switch<E, S, T> {
     }
 
     fn grant(&mut self, party: u8, spacing: Span, bound: Span) -> Result<(), Fault>
-        ensures answer { result ≡ told (grant_verdict (pick self.old.make (E.Scheduler.meaning self.old.edf) (S.Scheduler.meaning self.old.sp) (T.Scheduler.meaning self.old.table)) party spacing.0 bound.0 ((pick self.old.make (E.Scheduler.test self.old.edf) (S.Scheduler.test self.old.sp) (T.Scheduler.test self.old.table)) party spacing.0 bound.0)) party tt }
-        ensures becomes { pick self.new.make (E.Scheduler.meaning self.new.edf) (S.Scheduler.meaning self.new.sp) (T.Scheduler.meaning self.new.table) ≡ after (grant_verdict (pick self.old.make (E.Scheduler.meaning self.old.edf) (S.Scheduler.meaning self.old.sp) (T.Scheduler.meaning self.old.table)) party spacing.0 bound.0 ((pick self.old.make (E.Scheduler.test self.old.edf) (S.Scheduler.test self.old.sp) (T.Scheduler.test self.old.table)) party spacing.0 bound.0)) (pick self.old.make (E.Scheduler.meaning self.old.edf) (S.Scheduler.meaning self.old.sp) (T.Scheduler.meaning self.old.table)) (granted (pick self.old.make (E.Scheduler.meaning self.old.edf) (S.Scheduler.meaning self.old.sp) (T.Scheduler.meaning self.old.table)) party spacing.0 bound.0) }
+        ensures answer { result ≡ told (grant_verdict (of_make E.Scheduler.meaning S.Scheduler.meaning T.Scheduler.meaning self.old) party spacing.0 bound.0 (of_make E.Scheduler.test S.Scheduler.test T.Scheduler.test self.old party spacing.0 bound.0)) party tt }
+        ensures becomes { of_make E.Scheduler.meaning S.Scheduler.meaning T.Scheduler.meaning self.new ≡ after (grant_verdict (of_make E.Scheduler.meaning S.Scheduler.meaning T.Scheduler.meaning self.old) party spacing.0 bound.0 (of_make E.Scheduler.test S.Scheduler.test T.Scheduler.test self.old party spacing.0 bound.0)) (of_make E.Scheduler.meaning S.Scheduler.meaning T.Scheduler.meaning self.old) (granted (of_make E.Scheduler.meaning S.Scheduler.meaning T.Scheduler.meaning self.old) party spacing.0 bound.0) }
         ensures make { self.new.make ≡ self.old.make }
         ensures aside { Aside self.old.make self.old.edf self.new.edf self.old.sp self.new.sp self.old.table self.new.table }
     {
@@ -87,8 +87,8 @@ impl<E: Scheduler, S: Scheduler, T: Scheduler> Scheduler for Switch<E, S, T> {
     }
 
     fn withdraw(&mut self, party: u8) -> Result<(), Fault>
-        ensures answer { result ≡ told (withdraw_verdict (pick self.old.make (E.Scheduler.meaning self.old.edf) (S.Scheduler.meaning self.old.sp) (T.Scheduler.meaning self.old.table)) party) party tt }
-        ensures becomes { pick self.new.make (E.Scheduler.meaning self.new.edf) (S.Scheduler.meaning self.new.sp) (T.Scheduler.meaning self.new.table) ≡ after (withdraw_verdict (pick self.old.make (E.Scheduler.meaning self.old.edf) (S.Scheduler.meaning self.old.sp) (T.Scheduler.meaning self.old.table)) party) (pick self.old.make (E.Scheduler.meaning self.old.edf) (S.Scheduler.meaning self.old.sp) (T.Scheduler.meaning self.old.table)) (withdrawn (pick self.old.make (E.Scheduler.meaning self.old.edf) (S.Scheduler.meaning self.old.sp) (T.Scheduler.meaning self.old.table)) party) }
+        ensures answer { result ≡ told (withdraw_verdict (of_make E.Scheduler.meaning S.Scheduler.meaning T.Scheduler.meaning self.old) party) party tt }
+        ensures becomes { of_make E.Scheduler.meaning S.Scheduler.meaning T.Scheduler.meaning self.new ≡ after (withdraw_verdict (of_make E.Scheduler.meaning S.Scheduler.meaning T.Scheduler.meaning self.old) party) (of_make E.Scheduler.meaning S.Scheduler.meaning T.Scheduler.meaning self.old) (withdrawn (of_make E.Scheduler.meaning S.Scheduler.meaning T.Scheduler.meaning self.old) party) }
         ensures make { self.new.make ≡ self.old.make }
         ensures aside { Aside self.old.make self.old.edf self.new.edf self.old.sp self.new.sp self.old.table self.new.table }
     {
@@ -100,8 +100,8 @@ impl<E: Scheduler, S: Scheduler, T: Scheduler> Scheduler for Switch<E, S, T> {
     }
 
     fn put(&mut self, party: u8, label: u32) -> Result<(), Fault>
-        ensures answer { result ≡ told (put_verdict (pick self.old.make (E.Scheduler.meaning self.old.edf) (S.Scheduler.meaning self.old.sp) (T.Scheduler.meaning self.old.table)) party) party tt }
-        ensures becomes { pick self.new.make (E.Scheduler.meaning self.new.edf) (S.Scheduler.meaning self.new.sp) (T.Scheduler.meaning self.new.table) ≡ after (put_verdict (pick self.old.make (E.Scheduler.meaning self.old.edf) (S.Scheduler.meaning self.old.sp) (T.Scheduler.meaning self.old.table)) party) (pick self.old.make (E.Scheduler.meaning self.old.edf) (S.Scheduler.meaning self.old.sp) (T.Scheduler.meaning self.old.table)) (filled (pick self.old.make (E.Scheduler.meaning self.old.edf) (S.Scheduler.meaning self.old.sp) (T.Scheduler.meaning self.old.table)) party label) }
+        ensures answer { result ≡ told (put_verdict (of_make E.Scheduler.meaning S.Scheduler.meaning T.Scheduler.meaning self.old) party) party tt }
+        ensures becomes { of_make E.Scheduler.meaning S.Scheduler.meaning T.Scheduler.meaning self.new ≡ after (put_verdict (of_make E.Scheduler.meaning S.Scheduler.meaning T.Scheduler.meaning self.old) party) (of_make E.Scheduler.meaning S.Scheduler.meaning T.Scheduler.meaning self.old) (filled (of_make E.Scheduler.meaning S.Scheduler.meaning T.Scheduler.meaning self.old) party label) }
         ensures make { self.new.make ≡ self.old.make }
         ensures aside { Aside self.old.make self.old.edf self.new.edf self.old.sp self.new.sp self.old.table self.new.table }
     {
@@ -113,8 +113,8 @@ impl<E: Scheduler, S: Scheduler, T: Scheduler> Scheduler for Switch<E, S, T> {
     }
 
     fn serve(&mut self) -> Result<Option<Cell>, Fault>
-        ensures answer { result ≡ told (serve_verdict (pick self.old.make (E.Scheduler.meaning self.old.edf) (S.Scheduler.meaning self.old.sp) (T.Scheduler.meaning self.old.table))) 255 (pick self.old.make (E.Scheduler.choice self.old.edf) (S.Scheduler.choice self.old.sp) (T.Scheduler.choice self.old.table)) }
-        ensures becomes { pick self.new.make (E.Scheduler.meaning self.new.edf) (S.Scheduler.meaning self.new.sp) (T.Scheduler.meaning self.new.table) ≡ after (serve_verdict (pick self.old.make (E.Scheduler.meaning self.old.edf) (S.Scheduler.meaning self.old.sp) (T.Scheduler.meaning self.old.table))) (pick self.old.make (E.Scheduler.meaning self.old.edf) (S.Scheduler.meaning self.old.sp) (T.Scheduler.meaning self.old.table)) (stepped (pick self.old.make (E.Scheduler.meaning self.old.edf) (S.Scheduler.meaning self.old.sp) (T.Scheduler.meaning self.old.table)) (pick self.old.make (E.Scheduler.choice self.old.edf) (S.Scheduler.choice self.old.sp) (T.Scheduler.choice self.old.table))) }
+        ensures answer { result ≡ told (serve_verdict (of_make E.Scheduler.meaning S.Scheduler.meaning T.Scheduler.meaning self.old)) 255 (of_make E.Scheduler.choice S.Scheduler.choice T.Scheduler.choice self.old) }
+        ensures becomes { of_make E.Scheduler.meaning S.Scheduler.meaning T.Scheduler.meaning self.new ≡ after (serve_verdict (of_make E.Scheduler.meaning S.Scheduler.meaning T.Scheduler.meaning self.old)) (of_make E.Scheduler.meaning S.Scheduler.meaning T.Scheduler.meaning self.old) (stepped (of_make E.Scheduler.meaning S.Scheduler.meaning T.Scheduler.meaning self.old) (of_make E.Scheduler.choice S.Scheduler.choice T.Scheduler.choice self.old)) }
         ensures make { self.new.make ≡ self.old.make }
         ensures aside { Aside self.old.make self.old.edf self.new.edf self.old.sp self.new.sp self.old.table self.new.table }
     {
@@ -126,7 +126,7 @@ impl<E: Scheduler, S: Scheduler, T: Scheduler> Scheduler for Switch<E, S, T> {
     }
 
     fn reset(&mut self)
-        ensures becomes { pick self.new.make (E.Scheduler.meaning self.new.edf) (S.Scheduler.meaning self.new.sp) (T.Scheduler.meaning self.new.table) ≡ fresh }
+        ensures becomes { of_make E.Scheduler.meaning S.Scheduler.meaning T.Scheduler.meaning self.new ≡ fresh }
         ensures make { self.new.make ≡ self.old.make }
         ensures edf { E.Scheduler.meaning self.new.edf ≡ fresh }
         ensures sp { S.Scheduler.meaning self.new.sp ≡ fresh }
