@@ -5,57 +5,41 @@
 //! in which nothing is served, and `FLOW party n` for n slots, in each a put of the party.
 #![tactic(auto)]
 
-use anyhow::anyhow;
+use anyhow::{bail, ensure};
 use cells::faults::Fault;
 use cells::times::Span;
 use makes::{AnyMake, make};
 use scheduler::Scheduler;
-use std::fs;
+use std::{fmt, fs};
 
-/// The number that a word writes.
-fn number(word: Option<&str>) -> anyhow::Result<u32> {
-    match word {
-        Some(digits) => Ok(digits.parse::<u32>()?),
-        None => Err(anyhow!("a number is missing")),
-    }
-}
+/// What a call answered, without a value: `OK`, or `NO` and the number of the cause.
+#[derive(Clone, Copy)]
+struct Answer(Result<(), Fault>);
 
-/// The party, or the number of a make, that a word writes.
-fn small(word: Option<&str>) -> anyhow::Result<u8> {
-    match word {
-        Some(digits) => Ok(digits.parse::<u8>()?),
-        None => Err(anyhow!("a number is missing")),
-    }
-}
-
-/// Says whether a command was accepted, or why not.
-fn say(rt: &HostRuntime, answer: Result<(), Fault>) -> anyhow::Result<()> {
-    match answer {
-        Ok(()) => rt.println("\tOK")?,
-        Err(fault) => {
-            let cause = fault.cause.number();
-            println!(rt; "\tNO\t{cause}")?;
+impl fmt::Display for Answer {
+    fn fmt<W: fmt::Write>(&self, f: &mut fmt::Formatter<W>) -> fmt::Result {
+        match self.0 {
+            Ok(()) => write!(f, "OK"),
+            Err(fault) => write!(f, "NO\t{}", fault.cause.number()),
         }
     }
-    Ok(())
 }
 
-/// Ends the slot, and says which cell was served.
+/// Ends the slot, and says which cell was served, and in which slot it was due.
 fn serve(rt: &HostRuntime, any: &mut AnyMake) -> anyhow::Result<()> {
     match any.serve() {
         Ok(Some(cell)) => {
-            let party = cell.party;
-            let label = cell.label;
-            let eligible = cell.eligible.0;
-            let bound = match any.contract(party) {
-                Some(contract) => contract.bound.0,
-                None => 0,
-            };
-            let due = (u64::from(eligible) + u64::from(bound)).saturating_sub(1);
-            println!(rt; "\tCELL\t{party}\t{label}\t{eligible}\t{due}")?;
+            let bound = any
+                .contract(cell.party)
+                .map_or(0, |contract| contract.bound.0);
+            let due = (u64::from(cell.eligible.0) + u64::from(bound)).saturating_sub(1);
+            println!(rt;
+                "CELL\t{}\t{}\t{}\t{due}",
+                cell.party, cell.label, cell.eligible.0
+            )?;
         }
-        Ok(None) => rt.println("\tNONE")?,
-        Err(fault) => say(rt, Err(fault))?,
+        Ok(None) => rt.println("NONE")?,
+        Err(fault) => println!(rt; "{}", Answer(Err(fault)))?,
     }
     Ok(())
 }
@@ -63,10 +47,7 @@ fn serve(rt: &HostRuntime, any: &mut AnyMake) -> anyhow::Result<()> {
 /// Ends so many slots, in which nothing is served.
 fn idle(any: &mut AnyMake, slots: u32) -> anyhow::Result<()> {
     for _ in 0..slots {
-        match any.serve() {
-            Ok(None) => {}
-            _ => return Err(anyhow!("a slot was not idle")),
-        }
+        ensure!(matches!(any.serve(), Ok(None)), "a slot was not idle");
     }
     Ok(())
 }
@@ -83,56 +64,44 @@ fn flow(rt: &HostRuntime, any: &mut AnyMake, party: u8, slots: u32) -> anyhow::R
             served = served.saturating_add(1);
         }
     }
-    println!(rt; "FLOW\t{party}\t{slots}\tOK\t{accepted}\t{served}")?;
+    println!(rt; "OK\t{accepted}\t{served}")?;
     Ok(())
 }
 
-/// Carries out a command other than `MAKE`.
-fn obey(rt: &HostRuntime, any: &mut AnyMake, line: &str) -> anyhow::Result<()> {
-    let mut words = line.split(' ');
-    let verb = words.next().unwrap_or("");
-    if verb == "SERVE" {
-        print!(rt; "SERVE")?;
-        return serve(rt, any);
+/// Carries out the command that these words write, and says what it answered.
+fn obey(rt: &HostRuntime, any: &mut AnyMake, words: &[&str]) -> anyhow::Result<()> {
+    match words {
+        ["MAKE", number] => {
+            *any = make(number.parse()?);
+            rt.println("OK")?;
+        }
+        ["GRANT", party, spacing, bound, ..] => {
+            let spacing = Span(spacing.parse()?);
+            let bound = Span(bound.parse()?);
+            println!(rt; "{}", Answer(any.grant(party.parse()?, spacing, bound)))?;
+        }
+        ["WITHDRAW", party, ..] => println!(rt; "{}", Answer(any.withdraw(party.parse()?)))?,
+        ["PUT", party, label, ..] => {
+            println!(rt; "{}", Answer(any.put(party.parse()?, label.parse()?)))?;
+        }
+        ["SERVE", ..] => serve(rt, any)?,
+        ["IDLE", slots, ..] => {
+            idle(any, slots.parse()?)?;
+            rt.println("OK")?;
+        }
+        ["FLOW", party, slots, ..] => flow(rt, any, party.parse()?, slots.parse()?)?,
+        _ => bail!("no such command"),
     }
-    if verb == "IDLE" {
-        let slots = number(words.next())?;
-        idle(any, slots)?;
-        println!(rt; "IDLE\t{slots}\tOK")?;
-        return Ok(());
-    }
-    let party = small(words.next())?;
-    if verb == "GRANT" {
-        let spacing = number(words.next())?;
-        let bound = number(words.next())?;
-        print!(rt; "GRANT\t{party}\t{spacing}\t{bound}")?;
-        return say(rt, any.grant(party, Span(spacing), Span(bound)));
-    }
-    if verb == "WITHDRAW" {
-        print!(rt; "WITHDRAW\t{party}")?;
-        return say(rt, any.withdraw(party));
-    }
-    if verb == "FLOW" {
-        return flow(rt, any, party, number(words.next())?);
-    }
-    if verb == "PUT" {
-        let label = number(words.next())?;
-        print!(rt; "PUT\t{party}\t{label}")?;
-        return say(rt, any.put(party, label));
-    }
-    Err(anyhow!("no such command"))
+    Ok(())
 }
 
 fn main(rt: HostRuntime) -> anyhow::Result<()> {
     let script = fs::read_to_string(&rt, "script.txt")?;
     let mut any = make(0);
-    for line in script.as_str().lines() {
-        if let Some(kind) = line.strip_prefix("MAKE ") {
-            any = make(small(Some(kind))?);
-            println!(rt; "MAKE\t{kind}\tOK")?;
-        } else {
-            obey(&rt, &mut any, line)?;
-        }
+    for line in script.lines() {
+        let words = line.split(' ').collect::<Vec<&str>>(rt.alloc())?;
+        print!(rt; "{}\t", line.replace(rt.alloc(), ' ', "\t")?)?;
+        obey(&rt, &mut any, &words)?;
     }
     Ok(())
 }
