@@ -12,13 +12,11 @@ const TRACE: &str = "trace.tsv";
 
 /// A file's bytes; where it cannot be read, a message says so.
 fn bytes_of(rt: &HostRuntime, path: &str) -> anyhow::Result<Vec<u8>> {
-    match fs::read(rt, path) {
-        Ok(bytes) => Ok(bytes),
-        Err(e) => {
-            eprintln!(rt; "replay: cannot read {path}: {e}")?;
-            Err(e.into())
-        }
+    let read = fs::read(rt, path);
+    if let Err(e) = &read {
+        eprintln!(rt; "replay: cannot read {path}: {e}")?;
     }
+    Ok(read?)
 }
 
 /// Prints what the two files say.

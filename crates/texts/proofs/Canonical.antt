@@ -6,8 +6,9 @@ use Rattle.std.proofs.lemmas.List.{take_at}
 use Rattle.std.proofs.lemmas.Bool.{eqb-true}
 use Rattle.std.specs.Str.{bytes_eq}
 use Rattle.cells.specs.Faults.{field}
+use Rattle.cells.specs.declared.faults.Cause.TheVariants.{LineForm, NumberOutOfRange}
 use Rattle.texts.specs.Fields.{pieces, numbers_of}
-use Rattle.texts.specs.PlanLines.{kind_name, span, kind_of, hop_numbers, hop_line, hop_fields, eight_of, terms, party_numbers, party_fields, plan_line, misfit, too_great}
+use Rattle.texts.specs.PlanLines.{kind_name, span, kind_of, hop_numbers, hop_line, hop_fields, eight_of, terms, party_numbers, party_fields, plan_line}
 use Rattle.texts.specs.Writing.{tabbed, hop_written, party_written}
 use Rattle.texts.specs.declared.forms.Kind.{Kind}
 use Rattle.texts.specs.declared.forms.Kind.TheVariants.{Edf, Sp, Table}
@@ -33,28 +34,28 @@ kind_cases w false false false k x y z e = let n : ◌≡◌ {A = ℕ} 0 1 = cc 
 kind_named : (w : List ℕ) (k : Kind) → kind_of w ≡ Some k → w ≡ kind_name k
 kind_named w k e = kind_cases w (bytes_eq w (codes "EDF")) (bytes_eq w (codes "SP")) (bytes_eq w (codes "TABLE")) k refl refl refl e
 
-hop_made : (n g : ℕ) (k : Kind) (e : PlanEntry) (t : Bool) → cond t (Ok (Hop (record { kind = k; link = span g }))) (too_great n) ≡ Ok e → Hop (record { kind = k; link = span g }) ≡ e
-hop_made n g k e true h = cc
-hop_made n g k e false h = not_both h
+hop_made : (g : ℕ) (k : Kind) (e : PlanEntry) (t : Bool) → cond t (Ok (Hop (record { kind = k; link = span g }))) (Err NumberOutOfRange) ≡ Ok e → Hop (record { kind = k; link = span g }) ≡ e
+hop_made g k e true h = cc
+hop_made g k e false h = not_both h
 
-hop_cases : (n hops : ℕ) (k : Kind) (gs : List ℕ) (e : PlanEntry) → hop_numbers n k gs ≡ Ok e → codes "HOP" ++ (9 ∷ (kind_name k ++ (tabbed gs ++ 10 ∷ []))) ≡ entry_written hops e
-hop_cases n hops k [] e h = not_both h
-hop_cases n hops k (g ∷ []) e h =
-    ap (λ l. codes "HOP" ++ (9 ∷ (kind_name k ++ (l ++ 10 ∷ [])))) (append-nil (field g)) ∙ ap (entry_written hops) (hop_made n g k e (leb g 63) h)
-hop_cases n hops k (g ∷ g' ∷ gs) e h = not_both h
+hop_cases : (hops : ℕ) (k : Kind) (gs : List ℕ) (e : PlanEntry) → hop_numbers k gs ≡ Ok e → codes "HOP" ++ (9 ∷ (kind_name k ++ (tabbed gs ++ 10 ∷ []))) ≡ entry_written hops e
+hop_cases hops k [] e h = not_both h
+hop_cases hops k (g ∷ []) e h =
+    ap (λ l. codes "HOP" ++ (9 ∷ (kind_name k ++ (l ++ 10 ∷ [])))) (append-nil (field g)) ∙ ap (entry_written hops) (hop_made g k e (leb g 63) h)
+hop_cases hops k (g ∷ g' ∷ gs) e h = not_both h
 
-hop_line_lem : (n hops : ℕ) (w : List ℕ) (fs : List (List ℕ)) (k : Option Kind) (q : Option (List ℕ)) (e : PlanEntry) → kind_of w ≡ k → numbers_of fs ≡ q → hop_line n k q ≡ Ok e → codes "HOP" ++ (9 ∷ (w ++ (led 9 fs ++ 10 ∷ []))) ≡ entry_written hops e
-hop_line_lem n hops w fs None q e x y h = not_both h
-hop_line_lem n hops w fs (Some k) None e x y h = not_both h
-hop_line_lem n hops w fs (Some k) (Some gs) e x y h =
+hop_line_lem : (hops : ℕ) (w : List ℕ) (fs : List (List ℕ)) (k : Option Kind) (q : Option (List ℕ)) (e : PlanEntry) → kind_of w ≡ k → numbers_of fs ≡ q → hop_line k q ≡ Ok e → codes "HOP" ++ (9 ∷ (w ++ (led 9 fs ++ 10 ∷ []))) ≡ entry_written hops e
+hop_line_lem hops w fs None q e x y h = not_both h
+hop_line_lem hops w fs (Some k) None e x y h = not_both h
+hop_line_lem hops w fs (Some k) (Some gs) e x y h =
     ap (λ v. codes "HOP" ++ (9 ∷ (v ++ (led 9 fs ++ 10 ∷ [])))) (kind_named w k x)
     ∙ ap (λ l. codes "HOP" ++ (9 ∷ (kind_name k ++ (l ++ 10 ∷ [])))) (numbers_written fs gs y)
-    ∙ hop_cases n hops k gs e h
+    ∙ hop_cases hops k gs e h
 
-hop_fields_lem : (n hops : ℕ) (fs : List (List ℕ)) (e : PlanEntry) → hop_fields n fs ≡ Ok e → codes "HOP" ++ (led 9 fs ++ 10 ∷ []) ≡ entry_written hops e
-hop_fields_lem n hops [] e h = not_both h
-hop_fields_lem n hops (w ∷ fs) e h =
-    ap (λ l. codes "HOP" ++ (9 ∷ l)) (append_assoc w (led 9 fs) (10 ∷ [])) ∙ hop_line_lem n hops w fs (kind_of w) (numbers_of fs) e refl refl h
+hop_fields_lem : (hops : ℕ) (fs : List (List ℕ)) (e : PlanEntry) → hop_fields fs ≡ Ok e → codes "HOP" ++ (led 9 fs ++ 10 ∷ []) ≡ entry_written hops e
+hop_fields_lem hops [] e h = not_both h
+hop_fields_lem hops (w ∷ fs) e h =
+    ap (λ l. codes "HOP" ++ (9 ∷ l)) (append_assoc w (led 9 fs) (10 ∷ [])) ∙ hop_line_lem hops w fs (kind_of w) (numbers_of fs) e refl refl h
 
 spans : (ds : List ℕ) → map (λ d. d.0) (map span ds) ≡ ds
 spans [] = refl
@@ -64,35 +65,35 @@ bounds_back : (ds : List ℕ) (k : ℕ) → length ds ≡ k → map (λ d. d.0) 
 bounds_back ds k e =
     ap (map (λ d. d.0)) (take_at (map span ds) (replicate (8 - length ds) (span 0)) k (length-map ds span ∙ e)) ∙ spans ds
 
-party_made : (n p s hops : ℕ) (ds : List ℕ) (e : PlanEntry) (a b : Bool) → eqb (length ds) hops ≡ a → cond a (cond b (Ok (Party (record { number = p; spacing = span s; bounds = eight_of ds }))) (too_great n)) (misfit n) ≡ Ok e → codes "PARTY" ++ (tabbed (p ∷ s ∷ ds) ++ 10 ∷ []) ≡ entry_written hops e
-party_made n p s hops ds e true true x h =
+party_made : (p s hops : ℕ) (ds : List ℕ) (e : PlanEntry) (a b : Bool) → eqb (length ds) hops ≡ a → cond a (cond b (Ok (Party (record { number = p; spacing = span s; bounds = eight_of ds }))) (Err NumberOutOfRange)) (Err LineForm) ≡ Ok e → codes "PARTY" ++ (tabbed (p ∷ s ∷ ds) ++ 10 ∷ []) ≡ entry_written hops e
+party_made p s hops ds e true true x h =
     let same : Party (record { number = p; spacing = span s; bounds = eight_of ds }) ≡ e = cc in
     ap (λ l. codes "PARTY" ++ (tabbed (p ∷ s ∷ l) ++ 10 ∷ [])) (sym (bounds_back ds hops (eqb-true (length ds) hops x))) ∙ ap (entry_written hops) same
-party_made n p s hops ds e true false x h = not_both h
-party_made n p s hops ds e false b x h = not_both h
+party_made p s hops ds e true false x h = not_both h
+party_made p s hops ds e false b x h = not_both h
 
-party_cases : (n hops : ℕ) (ns : List ℕ) (e : PlanEntry) → party_numbers n hops ns ≡ Ok e → codes "PARTY" ++ (tabbed ns ++ 10 ∷ []) ≡ entry_written hops e
-party_cases n hops [] e h = not_both h
-party_cases n hops (p ∷ []) e h = not_both h
-party_cases n hops (p ∷ s ∷ ds) e h = party_made n p s hops ds e (eqb (length ds) hops) (leb p 15 && (leb s 65535 && terms ds)) refl h
+party_cases : (hops : ℕ) (ns : List ℕ) (e : PlanEntry) → party_numbers hops ns ≡ Ok e → codes "PARTY" ++ (tabbed ns ++ 10 ∷ []) ≡ entry_written hops e
+party_cases hops [] e h = not_both h
+party_cases hops (p ∷ []) e h = not_both h
+party_cases hops (p ∷ s ∷ ds) e h = party_made p s hops ds e (eqb (length ds) hops) (leb p 15 && (leb s 65535 && terms ds)) refl h
 
-party_fields_lem : (n hops : ℕ) (fs : List (List ℕ)) (q : Option (List ℕ)) (e : PlanEntry) → numbers_of fs ≡ q → party_fields n hops q ≡ Ok e → codes "PARTY" ++ (led 9 fs ++ 10 ∷ []) ≡ entry_written hops e
-party_fields_lem n hops fs None e y h = not_both h
-party_fields_lem n hops fs (Some ns) e y h =
-    ap (λ l. codes "PARTY" ++ (l ++ 10 ∷ [])) (numbers_written fs ns y) ∙ party_cases n hops ns e h
+party_fields_lem : (hops : ℕ) (fs : List (List ℕ)) (q : Option (List ℕ)) (e : PlanEntry) → numbers_of fs ≡ q → party_fields hops q ≡ Ok e → codes "PARTY" ++ (led 9 fs ++ 10 ∷ []) ≡ entry_written hops e
+party_fields_lem hops fs None e y h = not_both h
+party_fields_lem hops fs (Some ns) e y h =
+    ap (λ l. codes "PARTY" ++ (l ++ 10 ∷ [])) (numbers_written fs ns y) ∙ party_cases hops ns e h
 
-word_cases : (n hops : ℕ) (w : List ℕ) (fs : List (List ℕ)) (a b : Bool) (e : PlanEntry) → bytes_eq w (codes "HOP") ≡ a → bytes_eq w (codes "PARTY") ≡ b → cond a (hop_fields n fs) (cond b (party_fields n hops (numbers_of fs)) (misfit n)) ≡ Ok e → w ++ (led 9 fs ++ 10 ∷ []) ≡ entry_written hops e
-word_cases n hops w fs true b e x y h =
-    ap (λ v. v ++ (led 9 fs ++ 10 ∷ [])) ((bytes_eq-Decides w (codes "HOP")).0 x) ∙ hop_fields_lem n hops fs e h
-word_cases n hops w fs false true e x y h =
-    ap (λ v. v ++ (led 9 fs ++ 10 ∷ [])) ((bytes_eq-Decides w (codes "PARTY")).0 y) ∙ party_fields_lem n hops fs (numbers_of fs) e refl h
-word_cases n hops w fs false false e x y h = not_both h
+word_cases : (hops : ℕ) (w : List ℕ) (fs : List (List ℕ)) (a b : Bool) (e : PlanEntry) → bytes_eq w (codes "HOP") ≡ a → bytes_eq w (codes "PARTY") ≡ b → cond a (hop_fields fs) (cond b (party_fields hops (numbers_of fs)) (Err LineForm)) ≡ Ok e → w ++ (led 9 fs ++ 10 ∷ []) ≡ entry_written hops e
+word_cases hops w fs true b e x y h =
+    ap (λ v. v ++ (led 9 fs ++ 10 ∷ [])) ((bytes_eq-Decides w (codes "HOP")).0 x) ∙ hop_fields_lem hops fs e h
+word_cases hops w fs false true e x y h =
+    ap (λ v. v ++ (led 9 fs ++ 10 ∷ [])) ((bytes_eq-Decides w (codes "PARTY")).0 y) ∙ party_fields_lem hops fs (numbers_of fs) e refl h
+word_cases hops w fs false false e x y h = not_both h
 
-line_cases : (n hops : ℕ) (l : List ℕ) (ps : List (List ℕ)) (e : PlanEntry) → pieces 9 l ≡ ps → plan_line n hops ps ≡ Ok e → l ++ 10 ∷ [] ≡ entry_written hops e
-line_cases n hops l [] e x h = not_both h
-line_cases n hops l (w ∷ fs) e x h =
-    ap (λ v. v ++ 10 ∷ []) (parted 9 l w fs x) ∙ append_assoc w (led 9 fs) (10 ∷ []) ∙ word_cases n hops w fs (bytes_eq w (codes "HOP")) (bytes_eq w (codes "PARTY")) e refl refl h
+line_cases : (hops : ℕ) (l : List ℕ) (ps : List (List ℕ)) (e : PlanEntry) → pieces 9 l ≡ ps → plan_line hops ps ≡ Ok e → l ++ 10 ∷ [] ≡ entry_written hops e
+line_cases hops l [] e x h = not_both h
+line_cases hops l (w ∷ fs) e x h =
+    ap (λ v. v ++ 10 ∷ []) (parted 9 l w fs x) ∙ append_assoc w (led 9 fs) (10 ∷ []) ∙ word_cases hops w fs (bytes_eq w (codes "HOP")) (bytes_eq w (codes "PARTY")) e refl refl h
 
 -- a line that says something is how that is written
-pub line_written_lem : (n hops : ℕ) (l : List ℕ) (e : PlanEntry) → plan_line n hops (pieces 9 l) ≡ Ok e → l ++ 10 ∷ [] ≡ entry_written hops e
-line_written_lem n hops l e h = line_cases n hops l (pieces 9 l) e refl h
+pub line_written_lem : (hops : ℕ) (l : List ℕ) (e : PlanEntry) → plan_line hops (pieces 9 l) ≡ Ok e → l ++ 10 ∷ [] ≡ entry_written hops e
+line_written_lem hops l e h = line_cases hops l (pieces 9 l) e refl h

@@ -1,3 +1,4 @@
+pub mod Turns
 pub mod Pieces
 pub mod Numerals
 pub mod Sequences
@@ -5,5 +6,8 @@ pub mod Terms
 pub mod Pushes
 pub mod Falls
 pub mod Rejoins
+pub mod Links
 pub mod Canonical
+pub mod Ranges
+pub mod Reading
 pub mod Whole

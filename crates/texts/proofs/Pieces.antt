@@ -1,40 +1,35 @@
--- Where a text is cut.
-use Rattle.std.proofs.Common.{◌≡◌, ℕ, zero, suc, ◌+◌, ◌-◌, ◌<◌, eqb, List, [], ◌∷◌, length, get_or, take, drop, IfSome, Some, None, Option, sym, refl, ap, ◌∙◌, subst, add-one, arith, length-drop, Bor}
+-- Where a line is cut.
+use Rattle.std.proofs.Common.{◌≡◌, ℕ, ◌+◌, ◌-◌, Bool, true, false, cond, eqb, ltb, List, [], ◌∷◌, length, take, drop, Some, None, Option, sym, refl, ap, ◌∙◌, arith}
 use Rattle.std.proofs.lemmas.List.{take_rest}
-use Rattle.std.proofs.lemmas.Bool.{cond-true, cond-false, eq-eqb, ne_eqb}
-use Rattle.std.specs.Option.{option_map}
-use Rattle.texts.specs.Fields.{grown, pieces}
+use Rattle.std.proofs.lemmas.List.Splits.{slice_split_none, slice_split_first}
+use Rattle.std.proofs.lemmas.List.Sums.{fails_before_first}
+use Rattle.std.proofs.lemmas.Bool.{ltb-true, ltb-false}
+use Rattle.std.specs.List.{position_or_len}
+use Rattle.texts.specs.Fields.{pieces}
 
--- how much of a text is left
-abbrev pub left : Option (List ℕ) → ℕ
-left None = 0
-left (Some xs) = length xs + 1
+-- the place of the first byte b, or the length
+abbrev first : ℕ → List ℕ → ℕ
+first b xs = position_or_len (λ x. eqb x b) xs
 
-less : (behind : Option (Bor (List ℕ))) (here : Bor (List ℕ)) → IfSome behind (λ r. length r.now < length here.now) → left (option_map (λ r. r.now) behind) < length here.now + 1
-less None here h = omega arith
-less (Some r) here h = omega arith
+-- what `position` answers
+abbrev pub found : ℕ → List ℕ → Option ℕ
+found b xs = cond (ltb (first b xs) (length xs)) (Some (first b xs)) None
 
-pub left_less : (was behind : Option (Bor (List ℕ))) (here : Bor (List ℕ)) → was ≡ Some here → IfSome behind (λ r. length r.now < length here.now) → left (option_map (λ r. r.now) behind) < left (option_map (λ r. r.now) was)
-left_less was behind here e h = subst (λ o. left (option_map (λ r. r.now) behind) < left (option_map (λ r. r.now) o)) (sym e) (less behind here h)
+uncut_cases : (b : ℕ) (xs : List ℕ) (t : Bool) → ltb (first b xs) (length xs) ≡ t → cond t (Some (first b xs)) None ≡ None → pieces b xs ≡ xs ∷ []
+uncut_cases b xs true e h = let z : ◌≡◌ {A = ℕ} 0 1 = cc in absurd (omega arith)
+uncut_cases b xs false e h =
+    slice_split_none (λ x. eqb x b) xs (λ k d l. fails_before_first (λ x. eqb x b) xs k d (omega (arith, ltb-false (first b xs) (length xs) e)))
 
--- the byte b stands at no place below i
-abbrev pub NoneBelow : ℕ → List ℕ → ℕ → Type 0
-NoneBelow b xs i = (k : ℕ) → k < i → get_or xs k 0 ≡ b → ⊥
+pub uncut : (b : ℕ) (xs : List ℕ) → found b xs ≡ None → pieces b xs ≡ xs ∷ []
+uncut b xs h = uncut_cases b xs (ltb (first b xs) (length xs)) refl h
 
-pub uncut : (b : ℕ) (xs : List ℕ) → NoneBelow b xs (length xs) → pieces b xs ≡ xs ∷ []
-uncut b [] h = refl
-uncut b (x ∷ xs) h =
-    cond-false (eqb x b) _ _ (ne_eqb x b (h 0 (omega arith))) ∙ ap (grown x) (uncut b xs (λ k l. h (suc k) (omega arith)))
+cut_cases : (b : ℕ) (xs : List ℕ) (i : ℕ) (t : Bool) → ltb (first b xs) (length xs) ≡ t → cond t (Some (first b xs)) None ≡ Some i → pieces b xs ≡ take i xs ∷ pieces b (take (length xs - (i + 1)) (drop (i + 1) xs))
+cut_cases b xs i true e h =
+    let same : first b xs ≡ i = cc in
+    slice_split_first (λ x. eqb x b) xs 0 (ltb-true (first b xs) (length xs) e)
+    ∙ ap (λ k. take k xs ∷ pieces b (drop (k + 1) xs)) same
+    ∙ ap (λ ys. take i xs ∷ pieces b ys) (sym (take_rest xs (i + 1)))
+cut_cases b xs i false e h = let z : ◌≡◌ {A = ℕ} 0 1 = cc in absurd (omega arith)
 
-first_cut : (b : ℕ) (xs : List ℕ) (i : ℕ) → i < length xs → NoneBelow b xs i → get_or xs i 0 ≡ b → pieces b xs ≡ take i xs ∷ pieces b (drop (suc i) xs)
-first_cut b [] i l h e = absurd (omega arith)
-first_cut b (x ∷ xs) zero l h e = cond-true (eqb x b) _ _ (eq-eqb x b e)
-first_cut b (x ∷ xs) (suc i) l h e =
-    cond-false (eqb x b) _ _ (ne_eqb x b (h 0 (omega arith))) ∙ ap (grown x) (first_cut b xs i (omega arith) (λ k m. h (suc k) (omega arith)) e)
-
--- as the slices `[0..i]` and `[i + 1..]` are read
-pub cut_at : (b : ℕ) (xs : List ℕ) (i : ℕ) → i < length xs → NoneBelow b xs i → get_or xs i 0 ≡ b → (pieces b xs ≡ take (i - 0) xs ∷ pieces b (take (length xs - (i + 1)) (drop (i + 1) xs))) × (length (take (length xs - (i + 1)) (drop (i + 1) xs)) < length xs)
-cut_at b xs i l h e =
-    let z : i - 0 ≡ i = omega arith in
-    let f = first_cut b xs i l h e in
-    (simp (z, take_rest, add-one) f, simp (take_rest, length-drop) (omega arith))
+pub cut_at : (b : ℕ) (xs : List ℕ) (i : ℕ) → found b xs ≡ Some i → pieces b xs ≡ take i xs ∷ pieces b (take (length xs - (i + 1)) (drop (i + 1) xs))
+cut_at b xs i h = cut_cases b xs i (ltb (first b xs) (length xs)) refl h

@@ -1,11 +1,11 @@
 -- Pieces put together again, and the numbers among them.
-use Rattle.std.proofs.Common.{◌≡◌, ℕ, ◌<◌, Bool, true, false, cond, not, ◌&&◌, ◌||◌, eqb, leb, List, [], ◌∷◌, ◌++◌, length, get_or, drop, Some, None, decimal, Option, sym, refl, ap, ◌∙◌, inl, inr, append_assoc, arith}
-use Rattle.std.proofs.lemmas.Bool.{and_parts, or_cases, not-true, leb-true, eqb-true, eqb-false}
+use Rattle.std.proofs.Common.{◌≡◌, ℕ, Bool, true, false, cond, eqb, List, [], ◌∷◌, ◌++◌, drop, Some, None, decimal, Option, sym, refl, ap, ◌∙◌, append_assoc, arith}
+use Rattle.std.proofs.lemmas.Bool.{eqb-true}
+use Rattle.std.specs.List.{onto_first}
 use Rattle.std.specs.Str.Parse.{digits_value}
-use Rattle.std.specs.Str.{all_ascii_digits}
-use Rattle.texts.specs.Fields.{grown, pieces, is_numeral, numeral, joined_to, numbers_of}
+use Rattle.texts.specs.Fields.{pieces, is_numeral, numeral, joined_to, numbers_of}
 use Rattle.texts.specs.Writing.{tabbed}
-use Rattle.texts.proofs.Numerals.{Bare, tests, written}
+use Rattle.texts.proofs.Numerals.{numeral_tells, written}
 
 -- pieces, the byte b before each
 abbrev pub led : ℕ → List (List ℕ) → List ℕ
@@ -17,13 +17,13 @@ abbrev pub ended : ℕ → List (List ℕ) → List ℕ
 ended b [] = []
 ended b (p ∷ ps) = p ++ (b ∷ ended b ps)
 
-grown-led : (b x : ℕ) (ps : List (List ℕ)) (xs : List ℕ) → led b ps ≡ b ∷ xs → led b (grown x ps) ≡ b ∷ x ∷ xs
-grown-led b x [] xs h = let z : ◌≡◌ {A = ℕ} 0 1 = cc in absurd (omega arith)
-grown-led b x (p ∷ ps) xs h = ap (λ l. b ∷ x ∷ drop 1 l) h
+onto_first-led : (b x : ℕ) (ps : List (List ℕ)) (xs : List ℕ) → led b ps ≡ b ∷ xs → led b (onto_first x ps) ≡ b ∷ x ∷ xs
+onto_first-led b x [] xs h = let z : ◌≡◌ {A = ℕ} 0 1 = cc in absurd (omega arith)
+onto_first-led b x (p ∷ ps) xs h = ap (λ l. b ∷ x ∷ drop 1 l) h
 
-led_cases : (b x : ℕ) (xs : List ℕ) (ps : List (List ℕ)) (t : Bool) → eqb x b ≡ t → led b ps ≡ b ∷ xs → led b (cond t ([] ∷ ps) (grown x ps)) ≡ b ∷ x ∷ xs
+led_cases : (b x : ℕ) (xs : List ℕ) (ps : List (List ℕ)) (t : Bool) → eqb x b ≡ t → led b ps ≡ b ∷ xs → led b (cond t ([] ∷ ps) (onto_first x ps)) ≡ b ∷ x ∷ xs
 led_cases b x xs ps true e h = ap (λ l. b ∷ l) h ∙ ap (λ y. b ∷ y ∷ xs) (sym (eqb-true x b e))
-led_cases b x xs ps false e h = grown-led b x ps xs h
+led_cases b x xs ps false e h = onto_first-led b x ps xs h
 
 pub led-pieces : (b : ℕ) (xs : List ℕ) → led b (pieces b xs) ≡ b ∷ xs
 led-pieces b [] = refl
@@ -41,22 +41,9 @@ ended-pieces b xs = ap (λ l. drop 1 l) (ended-led b (pieces b xs) ∙ ap (λ l.
 pub parted : (b : ℕ) (xs w : List ℕ) (ps : List (List ℕ)) → pieces b xs ≡ w ∷ ps → xs ≡ w ++ led b ps
 parted b xs w ps e = ap (λ l. drop 1 l) (sym (led-pieces b xs) ∙ ap (led b) e)
 
-bare_from : (ds : List ℕ) → (not (eqb (get_or ds 0 0) 48) || leb (length ds) 1) ≡ true → Bare ds
-bare_from ds h z =
-    elim (or_cases (not (eqb (get_or ds 0 0) 48)) (leb (length ds) 1) h) [
-      | inl e ↦ absurd (eqb-false (get_or ds 0 0) 48 (not-true (eqb (get_or ds 0 0) 48) e) z)
-      | inr e ↦ leb-true (length ds) 1 e
-    ]
-
 -- a field that writes a number is how the number is written
 numeral-written : (ds : List ℕ) (t : Bool) (n : ℕ) → is_numeral ds ≡ t → cond t (Some (digits_value 10 ds)) None ≡ Some n → ds ≡ decimal n
-numeral-written ds true n h e =
-    let a = and_parts (leb 1 (length ds) && leb (length ds) 10) ((not (eqb (get_or ds 0 0) 48) || leb (length ds) 1) && all_ascii_digits ds) h in
-    let b = and_parts (leb 1 (length ds)) (leb (length ds) 10) a.0 in
-    let d = and_parts (not (eqb (get_or ds 0 0) 48) || leb (length ds) 1) (all_ascii_digits ds) a.1 in
-    let some : 0 < length ds = omega (arith, leb-true 1 (length ds) b.0) in
-    let same : digits_value 10 ds ≡ n = cc in
-    (written ds some (leb-true (length ds) 10 b.1) (bare_from ds d.0) (tests.to ds d.1)).0 ∙ ap decimal same
+numeral-written ds true n h e = let same : digits_value 10 ds ≡ n = cc in written ds (numeral_tells ds h) ∙ ap decimal same
 numeral-written ds false n h e = let z : ◌≡◌ {A = ℕ} 0 1 = cc in absurd (omega arith)
 
 pub numeral_is : (ds : List ℕ) (n : ℕ) → numeral ds ≡ Some n → ds ≡ decimal n

@@ -1,11 +1,17 @@
 -- The numbers of a PARTY line.
-use Rattle.std.proofs.Common.{◌≡◌, ℕ, suc, ◌+◌, ◌-◌, ◌<◌, ◌≤◌, Bool, true, false, ◌&&◌, leb, List, [], ◌∷◌, ◌++◌, map, length, get_or, take, drop, set, replicate, Ok, sym, refl, ap, ◌∙◌, append_assoc, arith}
+use Rattle.std.proofs.Common.{◌≡◌, ℕ, zero, suc, ◌+◌, ◌-◌, ◌<◌, ◌≤◌, Bool, true, false, ◌&&◌, leb, List, [], ◌∷◌, ◌++◌, map, length, get_or, take, drop, set, replicate, Ok, Err, sym, refl, ap, ◌∙◌, append_assoc, arith}
 use lib.ListN.{length-map}
 use Rattle.std.proofs.lemmas.List.{take_rest, map_more, set-append_right, length-take-le, take_all}
-use Rattle.std.proofs.lemmas.Bool.{cond-true, cond-false, eq-eqb, le-leb, and_from}
+use Rattle.std.proofs.lemmas.Bool.{cond-true, cond-false, eq-eqb, le-leb, leb-true, and_parts, and_from}
+use Rattle.cells.specs.declared.faults.Cause.TheVariants.{NumberOutOfRange}
 use Rattle.cells.specs.declared.times.Span.{Span}
 use Rattle.texts.specs.declared.forms.PlanEntry.TheVariants.{Party}
-use Rattle.texts.specs.PlanLines.{span, terms, eight_of, party_numbers, too_great}
+use Rattle.texts.specs.PlanLines.{span, terms, eight_of, party_numbers}
+
+pub term_at : (ds : List ℕ) (i : ℕ) → terms ds ≡ true → i < length ds → get_or ds i 0 ≤ 65535
+term_at [] i h l = absurd (omega arith)
+term_at (d ∷ ds) zero h l = leb-true d 65535 (and_parts (leb d 65535) (terms ds) h).0
+term_at (d ∷ ds) (suc i) h l = term_at ds i (and_parts (leb d 65535) (terms ds) h).1 (omega arith)
 
 -- eight places, the first i of them filled
 abbrev pub filled : List ℕ → ℕ → List Span
@@ -44,16 +50,16 @@ two_up (x ∷ y ∷ xs) l = refl
 abbrev pub bounds_of : List ℕ → List ℕ
 bounds_of xs = take (length xs - 2) (drop 2 xs)
 
-parted : (n hops : ℕ) (xs : List ℕ) → 2 ≤ length xs → party_numbers n hops xs ≡ party_numbers n hops (get_or xs 0 0 ∷ get_or xs 1 0 ∷ bounds_of xs)
-parted n hops xs l =
-    ap (party_numbers n hops) (two_up xs l) ∙ ap (λ ds. party_numbers n hops (get_or xs 0 0 ∷ get_or xs 1 0 ∷ ds)) (sym (take_rest xs 2))
+parted : (hops : ℕ) (xs : List ℕ) → 2 ≤ length xs → party_numbers hops xs ≡ party_numbers hops (get_or xs 0 0 ∷ get_or xs 1 0 ∷ bounds_of xs)
+parted hops xs l =
+    ap (party_numbers hops) (two_up xs l) ∙ ap (λ ds. party_numbers hops (get_or xs 0 0 ∷ get_or xs 1 0 ∷ ds)) (sym (take_rest xs 2))
 
 fits : ℕ → ℕ → List ℕ → Bool
 fits p s ds = leb p 15 && (leb s 65535 && terms ds)
 
-pub party_made : (n hops : ℕ) (xs : List ℕ) → 2 ≤ length xs → length (bounds_of xs) ≡ hops → get_or xs 0 0 ≤ 15 → get_or xs 1 0 ≤ 65535 → terms (bounds_of xs) ≡ true → party_numbers n hops xs ≡ Ok (Party (record { number = get_or xs 0 0; spacing = span (get_or xs 1 0); bounds = eight_of (bounds_of xs) }))
-party_made n hops xs l h a b t =
-    parted n hops xs l ∙ cond-true _ _ _ (eq-eqb _ _ h) ∙ cond-true _ _ _ (and_from _ _ (le-leb _ 15 a) (and_from _ _ (le-leb _ 65535 b) t))
+pub party_made : (hops : ℕ) (xs : List ℕ) → 2 ≤ length xs → length (bounds_of xs) ≡ hops → get_or xs 0 0 ≤ 15 → get_or xs 1 0 ≤ 65535 → terms (bounds_of xs) ≡ true → party_numbers hops xs ≡ Ok (Party (record { number = get_or xs 0 0; spacing = span (get_or xs 1 0); bounds = eight_of (bounds_of xs) }))
+party_made hops xs l h a b t =
+    parted hops xs l ∙ cond-true _ _ _ (eq-eqb _ _ h) ∙ cond-true _ _ _ (and_from _ _ (le-leb _ 15 a) (and_from _ _ (le-leb _ 65535 b) t))
 
-pub party_refused : (n hops : ℕ) (xs : List ℕ) → 2 ≤ length xs → length (bounds_of xs) ≡ hops → (leb (get_or xs 0 0) 15 && (leb (get_or xs 1 0) 65535 && terms (bounds_of xs))) ≡ false → party_numbers n hops xs ≡ too_great n
-party_refused n hops xs l h f = parted n hops xs l ∙ cond-true _ _ _ (eq-eqb _ _ h) ∙ cond-false _ _ _ f
+pub party_refused : (hops : ℕ) (xs : List ℕ) → 2 ≤ length xs → length (bounds_of xs) ≡ hops → (leb (get_or xs 0 0) 15 && (leb (get_or xs 1 0) 65535 && terms (bounds_of xs))) ≡ false → party_numbers hops xs ≡ Err NumberOutOfRange
+party_refused hops xs l h f = parted hops xs l ∙ cond-true _ _ _ (eq-eqb _ _ h) ∙ cond-false _ _ _ f

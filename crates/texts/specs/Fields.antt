@@ -1,22 +1,12 @@
 -- What a text is made of: pieces between the bytes that part them, and numbers.
 use Rattle.std.specs.Prelude.{ℕ, Bool, cond, not, ◌&&◌, ◌||◌, List, [], ◌∷◌, length, Some, None, Option, ◌==◌, nat_le, slice_index}
+use Rattle.std.specs.List.{slice_split}
 use Rattle.std.specs.Str.Parse.{digits_value}
 use Rattle.std.specs.Str.{all_ascii_digits}
 
--- one byte more in front of the first piece
-abbrev pub grown : ℕ → List (List ℕ) → List (List ℕ)
-grown x [] = (x ∷ []) ∷ []
-grown x (p ∷ ps) = (x ∷ p) ∷ ps
-
 -- the pieces of a text that the byte b parts: one more than b stands in it
 abbrev pub pieces : ℕ → List ℕ → List (List ℕ)
-pieces b [] = [] ∷ []
-pieces b (x ∷ xs) = cond (x == b) ([] ∷ pieces b xs) (grown x (pieces b xs))
-
--- the pieces of what stands behind a cut: none at the end of the text
-abbrev pub behind : ℕ → Option (List ℕ) → List (List ℕ)
-behind b None = []
-behind b (Some xs) = pieces b xs
+pieces b xs = slice_split (λ x. x == b) xs
 
 -- one to ten digits, the first no zero unless it is alone
 abbrev pub is_numeral : List ℕ → Bool

@@ -1,4 +1,4 @@
-pub mod Every
+pub mod Refusals
 pub mod Fields
 pub mod Lines
 pub mod Parties

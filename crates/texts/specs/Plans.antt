@@ -1,7 +1,7 @@
 -- What a plan's text says, as a whole.
-use Rattle.std.specs.Prelude.{ℕ, Bool, cond, not, ◌&&◌, List, [], ◌∷◌, ◌++◌, length, Ok, Err, vec_items, Result, ◌==◌, nat_lt}
-use Rattle.cells.specs.Faults.{text_fault}
-use Rattle.cells.specs.declared.faults.Cause.TheVariants.{TextSizeOrEnd, LinePlace}
+use Rattle.std.specs.Prelude.{ℕ, ◌+◌, Bool, cond, not, ◌&&◌, List, [], ◌∷◌, ◌++◌, length, Ok, Err, vec_items, Result, ◌==◌, nat_lt}
+use Rattle.cells.specs.declared.faults.Cause.{Cause}
+use Rattle.cells.specs.declared.faults.Cause.TheVariants.{LinePlace}
 use Rattle.cells.specs.declared.faults.Fault.{Fault}
 use Rattle.cells.specs.declared.faults.Layer.TheVariants.{Plan}
 use Rattle.texts.specs.Fields.{pieces}
@@ -20,11 +20,11 @@ pub record Layout : Type 0 where
   pub hops : List PlanHop
   pub parties : List PlanParty
 
-abbrev pub layout_of : PlanRead → Layout
-layout_of p = record { hops = vec_items p.hops; parties = vec_items p.parties }
-
 abbrev pub draft_of : Draft → Layout
 draft_of d = record { hops = vec_items d.hops; parties = vec_items d.parties }
+
+abbrev pub layout_of : PlanRead → Layout
+layout_of p = draft_of p.draft
 
 abbrev pub blank : Layout
 blank = record { hops = []; parties = [] }
@@ -38,20 +38,21 @@ abbrev pub added : Layout → PlanEntry → Layout
 added m (Hop h) = record { hops = m.hops ++ h ∷ []; parties = m.parties }
 added m (Party p) = record { hops = m.hops; parties = m.parties ++ p ∷ [] }
 
-abbrev pub misplaced : {X : Type 0} → ℕ → Result X Fault
-misplaced n = Err (text_fault LinePlace Plan n)
+-- a line: its form and ranges, then its place
+abbrev pub added_line : Layout → PlanEntry → Result Layout Cause
+added_line m e = cond (placed m e) (Ok (added m e)) (Err LinePlace)
 
--- line n: its form and ranges, then its place
-abbrev pub added_line : ℕ → Layout → PlanEntry → Result Layout Fault
-added_line n m e = cond (placed m e) (Ok (added m e)) (misplaced n)
-
-abbrev pub plan_step : ℕ → Layout → List ℕ → Result Layout Fault
-plan_step n m l = and_then (plan_line n (length m.hops) (pieces 9 l)) (added_line n m)
+abbrev pub plan_step : Layout → List ℕ → Result Layout Cause
+plan_step m l = and_then (plan_line (length m.hops) (pieces 9 l)) (added_line m)
 
 -- a plan has a hop and a party
-abbrev pub plan_end : ℕ → Layout → Result Layout Fault
-plan_end n m = cond (nat_lt 0 (length m.hops) && nat_lt 0 (length m.parties)) (Ok m) (misplaced n)
+abbrev pub plan_end : Layout → Result Layout Cause
+plan_end m = cond (nat_lt 0 (length m.hops) && nat_lt 0 (length m.parties)) (Ok m) (Err LinePlace)
 
 -- what the text of a plan says
 abbrev pub plan_of : List ℕ → Result Layout Fault
-plan_of bs = read_text plan_step plan_end blank (text_fault TextSizeOrEnd Plan 0) (body_of bs)
+plan_of bs = read_text Plan plan_step plan_end blank (body_of bs)
+
+-- how many lines a plan has
+abbrev pub lines_in : Layout → ℕ
+lines_in m = length m.hops + length m.parties

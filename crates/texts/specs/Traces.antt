@@ -1,7 +1,7 @@
 -- What a trace's text says.
 use Rattle.std.specs.Prelude.{ℕ, max, Bool, true, cond, ◌&&◌, List, [], ◌∷◌, ◌++◌, length, Some, None, Ok, Err, Option, Result, ◌==◌, nat_le}
-use Rattle.cells.specs.Faults.{text_fault}
-use Rattle.cells.specs.declared.faults.Cause.TheVariants.{TextSizeOrEnd, LineForm, NumberOutOfRange, LinePlace}
+use Rattle.cells.specs.declared.faults.Cause.{Cause}
+use Rattle.cells.specs.declared.faults.Cause.TheVariants.{LineForm, NumberOutOfRange, LinePlace}
 use Rattle.cells.specs.declared.faults.Fault.{Fault}
 use Rattle.cells.specs.declared.faults.Layer.TheVariants.{Trace}
 use Rattle.cells.specs.declared.times.Slot.{Slot}
@@ -34,33 +34,32 @@ never_falls [] = true
 never_falls (l ∷ ls) = not_below l ls && never_falls ls
 
 -- `party slot label`
-abbrev pub trace_numbers : ℕ → List ℕ → Result TraceLine Fault
-trace_numbers n [] = Err (text_fault LineForm Trace n)
-trace_numbers n (p ∷ []) = Err (text_fault LineForm Trace n)
-trace_numbers n (p ∷ s ∷ []) = Err (text_fault LineForm Trace n)
-trace_numbers n (p ∷ s ∷ l ∷ []) =
-    cond (nat_le p 15 && (nat_le s 16777215 && nat_le l 4294967295)) (Ok (record { party = p; slot = slot_at s; label = l })) (Err (text_fault NumberOutOfRange Trace n))
-trace_numbers n (p ∷ s ∷ l ∷ m ∷ ms) = Err (text_fault LineForm Trace n)
+abbrev pub trace_numbers : List ℕ → Result TraceLine Cause
+trace_numbers [] = Err LineForm
+trace_numbers (p ∷ []) = Err LineForm
+trace_numbers (p ∷ s ∷ []) = Err LineForm
+trace_numbers (p ∷ s ∷ l ∷ []) =
+    cond (nat_le p 15 && (nat_le s 16777215 && nat_le l 4294967295)) (Ok (record { party = p; slot = slot_at s; label = l })) (Err NumberOutOfRange)
+trace_numbers (p ∷ s ∷ l ∷ m ∷ ms) = Err LineForm
 
-abbrev pub trace_fields : ℕ → Option (List ℕ) → Result TraceLine Fault
-trace_fields n None = Err (text_fault LineForm Trace n)
-trace_fields n (Some ns) = trace_numbers n ns
+abbrev pub trace_fields : Option (List ℕ) → Result TraceLine Cause
+trace_fields None = Err LineForm
+trace_fields (Some ns) = trace_numbers ns
 
 -- its party has a line in the plan, and its slot is not below an earlier one of its party
 abbrev pub line_placed : List PlanParty → List TraceLine → TraceLine → Bool
 line_placed ps ls x = listed x.party ps && nat_le (highest x.party ls) x.slot.0
 
-abbrev pub added_to : List PlanParty → ℕ → List TraceLine → TraceLine → Result (List TraceLine) Fault
-added_to ps n ls x = cond (line_placed ps ls x) (Ok (ls ++ x ∷ [])) (Err (text_fault LinePlace Trace n))
+abbrev pub added_to : List PlanParty → List TraceLine → TraceLine → Result (List TraceLine) Cause
+added_to ps ls x = cond (line_placed ps ls x) (Ok (ls ++ x ∷ [])) (Err LinePlace)
 
--- line n: its form and ranges, then its place
-abbrev pub trace_step : List PlanParty → ℕ → List TraceLine → List ℕ → Result (List TraceLine) Fault
-trace_step ps n ls l = and_then (trace_fields n (numbers_of (pieces 9 l))) (added_to ps n ls)
+-- a line: its form and ranges, then its place
+abbrev pub trace_step : List PlanParty → List TraceLine → List ℕ → Result (List TraceLine) Cause
+trace_step ps ls l = and_then (trace_fields (numbers_of (pieces 9 l))) (added_to ps ls)
 
-abbrev pub trace_end : ℕ → List TraceLine → Result (List TraceLine) Fault
-trace_end n ls = Ok ls
+abbrev pub trace_end : List TraceLine → Result (List TraceLine) Cause
+trace_end ls = Ok ls
 
 -- what the text of a trace says, under a plan with these parties; an empty text is a trace
 abbrev pub trace_of : List PlanParty → List ℕ → Result (List TraceLine) Fault
-trace_of ps bs =
-    cond (length bs == 0) (Ok []) (read_text (trace_step ps) trace_end [] (text_fault TextSizeOrEnd Trace 0) (body_of bs))
+trace_of ps bs = cond (length bs == 0) (Ok []) (read_text Trace (trace_step ps) trace_end [] (body_of bs))

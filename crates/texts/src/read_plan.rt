@@ -1,17 +1,18 @@
 //! Reading a plan.
 
-ghost use Rattle.std.specs.Prelude.{◌≡◌, ◌≤◌, true, length, IfOk};
-ghost use Rattle.texts.specs.Lines.{ToldBy};
+ghost use Rattle.std.specs.Prelude.{◌≡◌, ◌+◌, ◌≤◌, true, length, IfOk};
+ghost use Rattle.cells.specs.declared.faults.Layer.TheVariants.{Plan as InPlan};
+ghost use Rattle.texts.specs.Lines.{ToldBy, in_line};
 ghost use Rattle.texts.specs.Parties.{listed, apart, few_slots, known_parties, ranged};
-ghost use Rattle.texts.specs.Plans.{layout_of, draft_of, blank, added_line, plan_step, plan_end, plan_of};
+ghost use Rattle.texts.specs.Plans.{layout_of, draft_of, blank, added_line, plan_step, plan_end, plan_of, lines_in};
 ghost use Rattle.texts.specs.Writing.{plan_written};
 
-use crate::fields::{NEWLINE, body, cut};
+use crate::fields::{body, ends_line};
 use crate::forms::{PlanEntry, PlanHop, PlanParty};
-use crate::plan_lines::plan_line;
 use crate::plans::{Draft, Plan};
 use crate::refusals::Refusal;
-use cells::faults::{Cause, NO_LINE};
+use cells::faults::{Cause, Fault, Layer, NO_LINE};
+use cells::limits::{HOPS, PARTIES};
 use std::alloc::Global;
 
 impl Plan {
@@ -21,7 +22,7 @@ impl Plan {
         ensures bound { (1 ≤ length result.now) × (length result.now ≤ 8) }
         ensures short { few_slots result.now ≡ true }
     {
-        self.hops.as_slice()
+        self.draft.hops.as_slice()
     }
 
     /// The parties, in the order of their lines.
@@ -31,27 +32,15 @@ impl Plan {
         ensures once { apart result.now ≡ true }
         ensures known { known_parties result.now ≡ true }
     {
-        self.parties.as_slice()
+        self.draft.parties.as_slice()
     }
 
     /// Whether a party has a line.
     pub fn lists(&self, party: u8) -> bool
         ensures { result ≡ listed party (layout_of self.now).parties }
     {
-        has_line(self.parties.as_slice(), party)
+        self.draft.lists(party)
     }
-}
-
-/// Whether one of the parties has this number.
-fn has_line(parties: &[PlanParty], number: u8) -> bool
-    ensures { result ≡ listed number parties.now }
-{
-    for party in parties {
-        if party.number == number {
-            return true;
-        }
-    }
-    false
 }
 
 impl Draft {
@@ -65,49 +54,72 @@ impl Draft {
         }
     }
 
-    /// One hop more, where it may stand here.
-    fn add_hop(&mut self, hop: PlanHop, line: u32) -> Result<(), Refusal>
-        requires { ranged (PlanEntry.Hop hop) ≡ true }
-        ensures { ToldBy (λ _. draft_of self.new) (added_line line (draft_of self.old) (PlanEntry.Hop hop)) result }
+    /// Whether a party has a line.
+    fn lists(&self, party: u8) -> bool
+        ensures { result ≡ listed party (draft_of self.now).parties }
     {
-        if self.hops.len() >= 8 || !self.parties.is_empty() {
-            return Err(Refusal::in_plan(Cause::LinePlace, line));
+        self.parties.iter().any(|other| other.number == party)
+    }
+
+    /// The number of the next line.
+    fn next_line(&self) -> u32
+        ensures { result ≡ lines_in (draft_of self.now) + 1 }
+    {
+        (self.hops.len() + self.parties.len() + 1) as u32
+    }
+
+    /// One hop more, where it may stand here.
+    fn add_hop(&mut self, hop: PlanHop) -> Result<(), Refusal<Cause>>
+        requires { ranged (PlanEntry.Hop hop) ≡ true }
+        ensures { ToldBy (λ _. draft_of self.new) (added_line (draft_of self.old) (PlanEntry.Hop hop)) result }
+    {
+        if self.hops.len() >= HOPS || !self.parties.is_empty() {
+            return Err(Refusal::Faulty(Cause::LinePlace));
         }
         self.hops.push(hop)?;
         Ok(())
     }
 
     /// One party more, where it may stand here.
-    fn add_party(&mut self, party: PlanParty, line: u32) -> Result<(), Refusal>
+    fn add_party(&mut self, party: PlanParty) -> Result<(), Refusal<Cause>>
         requires { ranged (PlanEntry.Party party) ≡ true }
-        ensures { ToldBy (λ _. draft_of self.new) (added_line line (draft_of self.old) (PlanEntry.Party party)) result }
+        ensures { ToldBy (λ _. draft_of self.new) (added_line (draft_of self.old) (PlanEntry.Party party)) result }
     {
-        if self.parties.len() >= 16 || has_line(self.parties.as_slice(), party.number) {
-            return Err(Refusal::in_plan(Cause::LinePlace, line));
+        if self.parties.len() >= PARTIES || self.lists(party.number) {
+            return Err(Refusal::Faulty(Cause::LinePlace));
         }
         self.parties.push(party)?;
         Ok(())
     }
 
-    /// One line more, with its number.
-    fn take_line(&mut self, heap: Global, line: u32, text: &[u8]) -> Result<(), Refusal>
-        ensures { ToldBy (λ _. draft_of self.new) (plan_step line (draft_of self.old) text.now) result }
+    /// One line more.
+    fn add_line(&mut self, heap: Global, text: &[u8]) -> Result<(), Refusal<Cause>>
+        ensures { ToldBy (λ _. draft_of self.new) (plan_step (draft_of self.old) text.now) result }
     {
-        match plan_line(heap, self.hops.len(), line, text)? {
-            PlanEntry::Hop(hop) => self.add_hop(hop, line),
-            PlanEntry::Party(party) => self.add_party(party, line),
+        match self.plan_line(heap, text)? {
+            PlanEntry::Hop(hop) => self.add_hop(hop),
+            PlanEntry::Party(party) => self.add_party(party),
         }
     }
 
-    /// The plan, where it has a hop and a party; `line` is one past the last.
-    fn finish(self, line: u32) -> Result<Plan, Refusal>
-        ensures { ToldBy layout_of (plan_end line (draft_of self)) result }
+    /// One line more, or the fault of the line.
+    fn take_line(&mut self, heap: Global, text: &[u8]) -> Result<(), Refusal>
+        ensures { ToldBy (λ _. draft_of self.new) (in_line InPlan (lines_in (draft_of self.old) + 1) (plan_step (draft_of self.old) text.now)) result }
+    {
+        let line = self.next_line();
+        self.add_line(heap, text)
+            .map_err(|refusal| refusal.in_line(Layer::Plan, line))
+    }
+
+    /// The plan, where it has a hop and a party.
+    fn finish(self) -> Result<Plan, Refusal>
+        ensures { ToldBy layout_of (in_line InPlan (lines_in (draft_of self) + 1) (plan_end (draft_of self))) result }
     {
         if self.hops.is_empty() || self.parties.is_empty() {
-            return Err(Refusal::in_plan(Cause::LinePlace, line));
+            let fault = Fault::of_text(Cause::LinePlace, Layer::Plan, self.next_line());
+            return Err(Refusal::Faulty(fault));
         }
-        let Draft { hops, parties } = self;
-        Ok(Plan { hops, parties })
+        Ok(Plan { draft: self })
     }
 }
 
@@ -117,24 +129,10 @@ pub fn read_plan(heap: Global, text: &[u8]) -> Result<Plan, Refusal>
     ensures told { ToldBy layout_of (plan_of text.now) result }
     ensures written { IfOk result (λ p. plan_written (layout_of p) ≡ text.now) }
 {
-    plan_of(heap, text)
-}
-
-/// Reads a plan line by line.
-fn plan_of(heap: Global, text: &[u8]) -> Result<Plan, Refusal>
-    ensures { ToldBy layout_of (plan_of text.now) result }
-{
-    let Some(lines) = body(text) else {
-        return Err(Refusal::in_plan(Cause::TextSizeOrEnd, NO_LINE));
-    };
+    let lines = body(text).ok_or(Fault::of_text(Cause::TextSizeOrEnd, Layer::Plan, NO_LINE))?;
     let mut draft = Draft::new(heap);
-    let mut line: u32 = 1;
-    let mut rest = Some(lines);
-    while let Some(text) = rest {
-        let (this, after) = cut(text, NEWLINE);
-        draft.take_line(heap, line, this)?;
-        line += 1;
-        rest = after;
+    for text in lines.split(ends_line) {
+        draft.take_line(heap, text)?;
     }
-    draft.finish(line)
+    draft.finish()
 }

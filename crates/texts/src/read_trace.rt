@@ -1,29 +1,29 @@
 //! Reading a trace.
 
-ghost use Rattle.std.specs.Prelude.{◌≡◌, ◌≤◌, true, [], ◌∷◌, ◌++◌, IfOk, IfErr, OnOk};
-ghost use Rattle.texts.specs.Every.{every};
+ghost use Rattle.std.specs.Prelude.{◌≡◌, ◌+◌, ◌^◌, ◌<◌, ◌≤◌, true, [], ◌∷◌, ◌++◌, length, IfOk, OnOk, OnErr};
+ghost use Rattle.std.specs.List.{list_all};
+ghost use Rattle.cells.specs.declared.faults.Layer.TheVariants.{Trace as InTrace};
 ghost use Rattle.texts.specs.Fields.{pieces, numbers_of};
-ghost use Rattle.texts.specs.Lines.{Told, ToldBy};
+ghost use Rattle.texts.specs.Lines.{Told, ToldBy, in_line};
 ghost use Rattle.texts.specs.Plans.{layout_of};
 ghost use Rattle.texts.specs.Traces.{trace_numbers, trace_fields, line_ranged, never_falls, highest, added_to, trace_step, trace_of};
-ghost use Rattle.texts.specs.declared.refusals.Refusal.TheVariants.{NoMemory};
 ghost use Rattle.texts.specs.Writing.{trace_written};
 ghost use Rattle.texts.specs.TraceRead.{trace_lines};
 
-use crate::fields::{NEWLINE, body, cut, numbers};
+use crate::fields::{body, ends_line, numbers};
 use crate::forms::{LABEL_MAX, PARTY_MAX, SLOT_MAX, TraceLine};
 use crate::plans::Plan;
 use crate::refusals::Refusal;
 use crate::traces::{Follow, Trace};
-use cells::faults::{Cause, NO_LINE};
+use cells::faults::{Cause, Fault, Layer, NO_LINE};
 use cells::times::Slot;
-use std::alloc::Global;
+use std::alloc::{AllocError, Global};
 
 impl Trace {
     /// The lines, in order.
     pub fn lines(&self) -> &[TraceLine]
         ensures value { result.now ≡ trace_lines self.now }
-        ensures ranged { every line_ranged result.now ≡ true }
+        ensures ranged { list_all line_ranged result.now ≡ true }
         ensures order { never_falls result.now ≡ true }
     {
         self.lines.as_slice()
@@ -31,18 +31,14 @@ impl Trace {
 }
 
 /// The line that three numbers write.
-fn line_of(all: &[u64], line: u32) -> Result<TraceLine, Refusal>
-    ensures told { Told (trace_numbers line all.now) result }
-    ensures sound { IfOk result (λ x. line_ranged x ≡ true) }
+fn line_of(all: &[u64]) -> Result<TraceLine, Cause>
+    ensures { result ≡ trace_numbers all.now }
 {
-    let [party, slot, label] = all else {
-        return Err(Refusal::in_trace(Cause::LineForm, line));
+    let &[party, slot, label] = all else {
+        return Err(Cause::LineForm);
     };
-    let party = *party;
-    let slot = *slot;
-    let label = *label;
     if party > PARTY_MAX || slot > SLOT_MAX || label > LABEL_MAX {
-        return Err(Refusal::in_trace(Cause::NumberOutOfRange, line));
+        return Err(Cause::NumberOutOfRange);
     }
     Ok(TraceLine {
         party: party as u8,
@@ -52,62 +48,85 @@ fn line_of(all: &[u64], line: u32) -> Result<TraceLine, Refusal>
 }
 
 /// What a line says.
-fn trace_line(heap: Global, line: u32, text: &[u8]) -> Result<TraceLine, Refusal>
-    ensures told { Told (trace_fields line (numbers_of (pieces 9 text.now))) result }
-    ensures sound { IfOk result (λ x. line_ranged x ≡ true) }
+fn trace_line(heap: Global, text: &[u8]) -> Result<TraceLine, Refusal<Cause>>
+    ensures { Told (trace_fields (numbers_of (pieces 9 text.now))) result }
 {
-    let Some(all) = numbers(heap, Some(text))? else {
-        return Err(Refusal::in_trace(Cause::LineForm, line));
-    };
-    line_of(all.as_slice(), line)
+    let all = numbers(heap, text)?.ok_or(Cause::LineForm)?;
+    Ok(line_of(all.as_slice())?)
+}
+
+impl Trace {
+    /// One line more, whose slot is not below an earlier one of its party.
+    fn add(&mut self, line: TraceLine) -> Result<(), AllocError>
+        requires ranged { line_ranged line ≡ true }
+        requires rises { highest line.party (trace_lines self.old) ≤ line.slot.0 }
+        ensures added { OnOk result (trace_lines self.new ≡ trace_lines self.old ++ line ∷ []) }
+        ensures kept { OnErr result (trace_lines self.new ≡ trace_lines self.old) }
+    {
+        self.lines.push(line)?;
+        Ok(())
+    }
 }
 
 impl Follow {
     /// No line yet.
     fn new(heap: Global) -> Follow
-        ensures { result.lines.items ≡ [] }
+        ensures { trace_lines result.trace ≡ [] }
     {
         Follow {
-            lines: Vec::new(heap),
+            trace: Trace {
+                lines: Vec::new(heap),
+            },
             reached: [Slot(0); 16],
         }
     }
 
-    /// One line more, whose slot is not below an earlier one of its party.
-    fn add(&mut self, line: TraceLine) -> Result<(), Refusal>
-        requires ranged { line_ranged line ≡ true }
-        requires rises { highest line.party self.old.lines.items ≤ line.slot.0 }
-        ensures added { OnOk result (self.new.lines.items ≡ self.old.lines.items ++ line ∷ []) }
-        ensures memory { IfErr result (λ e. e ≡ NoMemory) }
+    /// The number of the next line.
+    fn next_line(&self) -> u32
+        requires { length (trace_lines self.now.trace) < 2 ^ 16 }
+        ensures { result ≡ length (trace_lines self.now.trace) + 1 }
     {
-        self.lines.push(line)?;
+        self.trace.lines.len() as u32 + 1
+    }
+
+    /// One line more, whose slot is not below an earlier one of its party.
+    fn add(&mut self, line: TraceLine) -> Result<(), AllocError>
+        requires ranged { line_ranged line ≡ true }
+        requires rises { highest line.party (trace_lines self.old.trace) ≤ line.slot.0 }
+        ensures { OnOk result (trace_lines self.new.trace ≡ trace_lines self.old.trace ++ line ∷ []) }
+    {
+        self.trace.add(line)?;
         self.reached[usize::from(line.party)] = line.slot;
         Ok(())
     }
 
-    /// One line more, with its number.
-    fn take_line(
-        &mut self,
-        heap: Global,
-        plan: &Plan,
-        line: u32,
-        text: &[u8],
-    ) -> Result<(), Refusal>
-        ensures { ToldBy (λ _. self.new.lines.items) (trace_step (layout_of plan.now).parties line self.old.lines.items text.now) result }
+    /// One line more.
+    fn add_line(&mut self, heap: Global, plan: &Plan, text: &[u8]) -> Result<(), Refusal<Cause>>
+        ensures { ToldBy (λ _. trace_lines self.new.trace) (trace_step (layout_of plan.now).parties (trace_lines self.old.trace) text.now) result }
     {
-        let entry = trace_line(heap, line, text)?;
+        let entry = trace_line(heap, text)?;
         if !plan.lists(entry.party) || entry.slot < self.reached[usize::from(entry.party)] {
-            return Err(Refusal::in_trace(Cause::LinePlace, line));
+            return Err(Refusal::Faulty(Cause::LinePlace));
         }
-        self.add(entry)
+        Ok(self.add(entry)?)
+    }
+
+    /// One line more, or the fault of the line.
+    fn take_line(&mut self, heap: Global, plan: &Plan, text: &[u8]) -> Result<(), Refusal>
+        requires { length (trace_lines self.old.trace) < 2 ^ 16 }
+        ensures { ToldBy (λ _. trace_lines self.new.trace) (in_line InTrace (length (trace_lines self.old.trace) + 1) (trace_step (layout_of plan.now).parties (trace_lines self.old.trace) text.now)) result }
+    {
+        let line = self.next_line();
+        self.add_line(heap, plan, text)
+            .map_err(|refusal| refusal.in_line(Layer::Trace, line))
     }
 
     /// The trace.
     fn finish(self) -> Trace
-        ensures { result.lines.items ≡ self.lines.items }
+        ensures { trace_lines result ≡ trace_lines self.trace }
     {
-        let Follow { lines, reached: _ } = self;
-        Trace { lines }
+        let Follow { trace, reached: _ } = self;
+        trace
     }
 }
 
@@ -117,27 +136,13 @@ pub fn read_trace(heap: Global, plan: &Plan, text: &[u8]) -> Result<Trace, Refus
     ensures told { ToldBy trace_lines (trace_of (layout_of plan.now).parties text.now) result }
     ensures written { IfOk result (λ t. trace_written (trace_lines t) ≡ text.now) }
 {
-    trace_of(heap, plan, text)
-}
-
-/// Reads a trace line by line.
-fn trace_of(heap: Global, plan: &Plan, text: &[u8]) -> Result<Trace, Refusal>
-    ensures { ToldBy trace_lines (trace_of (layout_of plan.now).parties text.now) result }
-{
     let mut follow = Follow::new(heap);
     if text.is_empty() {
         return Ok(follow.finish());
     }
-    let Some(lines) = body(text) else {
-        return Err(Refusal::in_trace(Cause::TextSizeOrEnd, NO_LINE));
-    };
-    let mut line: u32 = 1;
-    let mut rest = Some(lines);
-    while let Some(text) = rest {
-        let (this, after) = cut(text, NEWLINE);
-        follow.take_line(heap, plan, line, this)?;
-        line += 1;
-        rest = after;
+    let lines = body(text).ok_or(Fault::of_text(Cause::TextSizeOrEnd, Layer::Trace, NO_LINE))?;
+    for text in lines.split(ends_line) {
+        follow.take_line(heap, plan, text)?;
     }
     Ok(follow.finish())
 }

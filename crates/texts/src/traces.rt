@@ -1,7 +1,7 @@
 //! A trace, and a trace while its lines come in.
 
 ghost use Rattle.std.specs.Prelude.{◌≡◌, ℕ, true, length, slice_index_or};
-ghost use Rattle.texts.specs.Every.{every};
+ghost use Rattle.std.specs.List.{list_all};
 ghost use Rattle.texts.specs.Traces.{line_ranged, never_falls, highest, slot_at};
 
 use crate::forms::TraceLine;
@@ -11,17 +11,15 @@ use cells::times::Slot;
 #[derive(Drop)]
 pub struct Trace {
     pub(crate) lines: Vec<TraceLine>,
-    ghost ranged: { every line_ranged lines.items ≡ true },
+    ghost ranged: { list_all line_ranged lines.items ≡ true },
     ghost order: { never_falls lines.items ≡ true },
 }
 
 /// The lines of a trace so far, and for each party the highest slot of its lines.
 #[derive(Drop)]
 pub struct Follow {
-    pub(crate) lines: Vec<TraceLine>,
+    pub(crate) trace: Trace,
     pub(crate) reached: [Slot; 16],
-    ghost ranged: { every line_ranged lines.items ≡ true },
-    ghost order: { never_falls lines.items ≡ true },
     ghost whole: { length reached ≡ 16 },
-    ghost follows: { (p : ℕ) → (slice_index_or reached p (slot_at 0)).0 ≡ highest p lines.items },
+    ghost follows: { (p : ℕ) → (slice_index_or reached p (slot_at 0)).0 ≡ highest p trace.lines.items },
 }

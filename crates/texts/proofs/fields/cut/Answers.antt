@@ -1,12 +1,17 @@
-use Rattle.std.proofs.Common.{arith}
-use Rattle.texts.proofs.Pieces.{uncut, cut_at}
+use Rattle.std.proofs.Common.{◌≡◌, eqb, sym, ◌∙◌, rules, tests}
+use Rattle.std.proofs.lemmas.Iterator.{YieldsList-from_slice}
+use Rattle.std.proofs.lemmas.Iterator.Search.{position_from_yields_List}
+use Rattle.texts.proofs.Pieces.{found, uncut, cut_at}
 use Rattle.texts.proofs.fields.cut.Goals as goal
+use Rattle.texts.proofs.fields.cut.Goals.{After-position}
 
-pub returns-then-b-mark : goal.returns-then-b-mark
-returns-then-b-mark c =
-    let h = cut_at c.args.mark c.args.text.now c.loop-i.i (omega arith) c.loop-i.invariant c.if-b-mark.true in
-    record { parts = h.0; shorter = h.1 }
+tab : (c : After-position) → c.position.result ≡ found 9 c.args.line.now
+tab c = position_from_yields_List (λ x. eqb x 9) _ _ c.position.result c.position.ensures.ran (YieldsList-from_slice c.args.line.now c.iter.ensures.rest) (λ x b q k. search (rules, tests))
+
+pub returns-in_err-at : goal.returns-in_err-at
+returns-in_err-at c =
+    let alone = uncut 9 c.args.line.now (sym (tab (goal.at.returns-in_err-at c).After-position) ∙ c.in_err-at.was) in
+    rw c.from_residual.ensures alone
 
 pub returns : goal.returns
-returns c =
-    record { parts = uncut c.args.mark c.args.text.now (λ k l. c.loop-i.invariant k (omega arith)); shorter = tt }
+returns c = cut_at 9 c.args.line.now c.in_ok-at.at (sym (tab (goal.at.returns c).After-position) ∙ c.in_ok-at.was)

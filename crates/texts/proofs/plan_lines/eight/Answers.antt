@@ -1,15 +1,13 @@
-use Rattle.std.proofs.Common.{leb, get_or, set, ap, ◌∙◌, arith}
+use Rattle.std.proofs.Common.{get_or, set, ap, ◌∙◌, arith}
 use Rattle.texts.specs.PlanLines.{span}
-use Rattle.texts.proofs.Terms.{filled_none, filled_more, filled_all}
-use Rattle.std.proofs.lemmas.Bool.{leb-true}
-use Rattle.texts.proofs.Pushes.{every_at}
+use Rattle.texts.proofs.Terms.{filled_none, filled_more, filled_all, term_at}
 use Rattle.texts.proofs.plan_lines.eight.Goals as goal
 
 pub loop-i-init : goal.loop-i-init
 loop-i-init c = filled_none c.args.bounds.now
 
 pub overflow_cast-all : goal.overflow_cast-all
-overflow_cast-all c = omega (arith, leb-true _ 65535 (every_at (λ d. leb d 65535) c.args.bounds.now c.loop-i.i 0 c.requires.small c.loop-i-test.true))
+overflow_cast-all c = omega (arith, term_at c.args.bounds.now c.loop-i.i c.requires.small c.loop-i-test.true)
 
 pub loop-i-preserved : goal.loop-i-preserved
 loop-i-preserved c =

@@ -1,6 +1,6 @@
 use Rattle.std.proofs.Common.{◌≡◌, ◌+◌, ◌≤◌, true, false, leb, [], ◌∷◌, ◌++◌, is_ok, vec_items, vec_len, arith, rules}
 use Rattle.texts.specs.Parties.{apart, known_parties, listed}
-use Rattle.texts.proofs.Pushes.{push_keeps, every_push, apart_push}
+use Rattle.texts.proofs.Pushes.{push_keeps, all_push, apart_push}
 use Rattle.texts.proofs.plans.Draft.add_party.Goals as goal
 
 pub invariant_of-self : goal.invariant_of-self
@@ -13,5 +13,5 @@ invariant_of-self c =
     let room : vec_len s.parties + 1 ≤ 16 = omega (arith, c.len.ensures) in
     let few = push_keeps (λ n. n ≤ 16) _ _ _ _ c.push.ensures.len room s.few_parties in
     let once = push_keeps (λ xs. apart xs ≡ true) ok ps (ps ++ p ∷ []) _ c.push.ensures.items (apart_push ps p s.once new) s.once in
-    let known = push_keeps (λ xs. known_parties xs ≡ true) ok ps (ps ++ p ∷ []) _ c.push.ensures.items (every_push (λ x. leb x.number 15) ps p s.known c.requires) s.known in
+    let known = push_keeps (λ xs. known_parties xs ≡ true) ok ps (ps ++ p ∷ []) _ c.push.ensures.items (all_push (λ x. leb x.number 15) ps p s.known c.requires) s.known in
     record { few_hops = s.few_hops; few_parties = few; once = once; short = s.short; known = known }
