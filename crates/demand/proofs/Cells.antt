@@ -1,6 +1,6 @@
 -- What the tests of a held cell tell.
 use Rattle.std.proofs.Common.{◌≡◌, ℕ, ◌+◌, ◌<◌, ◌≤◌, Bool, true, false, cond, ◌||◌, eqb, leb, ◌⊎◌, List, [], ◌∷◌, sum_by, refl, ap, arith}
-use Rattle.std.proofs.lemmas.List.Sums.{sum_by-cons}
+use Rattle.std.proofs.lemmas.List.Sums.{sum_by-cons, sum_by-le-sum_by}
 use Rattle.std.proofs.lemmas.Bool.{both_ways}
 use Rattle.std.proofs.lemmas.Bool.Decides.{nat_tests}
 use Rattle.scheduler.specs.Meaning.{due}
@@ -67,5 +67,4 @@ stray_since : (p b : ℕ) (x : Held) → stray p b x ≤ put_since p 0 x
 stray_since p b x = grind (arith, nat_tests)
 
 pub stray_le : (p b : ℕ) (xs : List Held) → sum_by (stray p b) xs ≤ sum_by (put_since p 0) xs
-stray_le p b [] = omega arith
-stray_le p b (x ∷ xs) = omega (arith, sum_by-cons (stray p b) x xs, sum_by-cons (put_since p 0) x xs, stray_since p b x, stray_le p b xs)
+stray_le p b xs = sum_by-le-sum_by (stray p b) (put_since p 0) xs (stray_since p b)

@@ -1,20 +1,20 @@
 -- Contracts and held cells stay orderly, and what follows of the laws.
 use Rattle.std.proofs.Common.{◌≡◌, ℕ, suc, ◌+◌, ◌<◌, ◌≤◌, Bool, true, false, cond, ltb, List, [], ◌∷◌, ◌++◌, length, get_or, set, Some, None, sum_by, Option, sym, refl, ap, ◌∙◌, subst, ⊎_elim, arith, length-append, get_or-set_other, get_or-set_same}
-use Rattle.std.proofs.lemmas.List.Sums.{sum_by_push, get_or-le-sum_by}
+use Rattle.std.proofs.lemmas.List.Sums.{sum_by_push, get_or-le-sum_by, sum_by-le-sum_by}
 use Rattle.std.proofs.lemmas.Bool.{cases_lt, cases_eq, cond-false}
 use Rattle.scheduler.specs.declared.register.Register.{Register}
 use Rattle.scheduler.specs.declared.terms.Contract.{Contract}
 use Rattle.scheduler.specs.Laws.{InTime, Contracted, Past, Since}
-use Rattle.scheduler.specs.Meaning.{after, stamped, used, due, put_rule, holds_of, holds_any}
+use Rattle.scheduler.specs.Meaning.{after, stamped, used, due, put_rule, holds_of, holds_any, without}
 use Rattle.scheduler.specs.Tables.{contracts_of, spacing_or, bound_or, last_or}
 use Rattle.scheduler.proofs.Registers.{parties, party, lasts, terms}
 use Rattle.scheduler.proofs.Updates.{each_set}
 use Rattle.backlog.specs.declared.held.Held.{Held}
 use Rattle.backlog.specs.Cells.{due_of, is_cell, held_in, holds_in, at, Taken}
-use Rattle.backlog.proofs.HeldCells.{held_none, busy_is, holds_is}
-use Rattle.demand.specs.Cells.{meaning_of, put_since, allowed, stray, due_before, Orderly}
+use Rattle.backlog.proofs.HeldCells.{held_none, held_taken, busy_is, holds_is}
+use Rattle.demand.specs.Cells.{meaning_of, cell_of, put_since, allowed, stray, due_before, Orderly, Puts}
 use Rattle.demand.specs.Totals.{total_of, places}
-use Rattle.demand.proofs.Sums.{each_le, each_le_add}
+use Rattle.demand.proofs.Sums.{each_le_add}
 use Rattle.demand.proofs.Tables.{total_used, total_gone}
 use Rattle.demand.proofs.Cells.{at_since, at_late, at_cases, stray_other, stray_same, stray_none, none_since, stray_le, before_no}
 use Rattle.demand.proofs.Spacing.{next_now, allowed_since, allowed_none, spaced_put}
@@ -41,6 +41,11 @@ orderly_taken cs xs ys (Some x) t v = record {
   fits = v.fits;
 }
 
+-- what is held then
+pub held_left : (cs : List (Option Contract)) (xs ys : List Held) (o : Option Held) → Taken xs o ys → Orderly cs xs → held_in ys ≡ without (held_in xs) (cell_of o)
+held_left cs xs ys None t v = ap held_in t
+held_left cs xs ys (Some x) t v = held_taken xs ys x v.single t
+
 -- a contract withdrawn, of a party that holds nothing
 pub orderly_withdrawn : (cs : List (Option Contract)) (xs : List Held) (p : ℕ) → p < length cs → holds_in xs p ≡ false → Orderly cs xs → Orderly (set cs p None) xs
 orderly_withdrawn cs xs p pin none v = record {
@@ -56,17 +61,7 @@ orderly_withdrawn cs xs p pin none v = record {
   fits = let g = total_gone places cs p pin in let f = v.fits in omega arith;
 }
 
--- a cell put: its party's contract, its slot and its bound
-pub record Puts (cs : List (Option Contract)) (t p : ℕ) (c : Contract) (x : Held) : Type 0 where
-  pub inside : p < length cs
-  pub granted : get_or cs p None ≡ Some c
-  pub consent : put_rule (Some c) t ≡ None
-  pub spacing : 1 ≤ c.spacing.0
-  pub party : x.cell.party ≡ p
-  pub eligible : x.cell.eligible.0 ≡ t
-  pub bound : x.bound.0 ≡ c.bound.0
-
--- the same, from what a register answers to a put
+-- a cell put, from what a register answers to a put
 pub puts_of : (r : Register) (p : ℕ) (c : Contract) (x : Held) → contracts_of r.contracts p ≡ Some c → put_rule (contracts_of r.contracts p) r.slot.0 ≡ None
     → x.cell.party ≡ p → x.cell.eligible.0 ≡ r.slot.0 → x.bound.0 ≡ c.bound.0 → Puts r.contracts r.slot.0 p c x
 puts_of r p c x has ok a b e =
@@ -90,7 +85,7 @@ puts_table cs p t c has ok = ap (λ w. after w cs (set cs p (used (contracts_of 
 -- no cell of its party has its eligible slot
 pub put_new : (cs : List (Option Contract)) (xs : List Held) (t p : ℕ) (c : Contract) (x : Held) → Puts cs t p c x → Orderly cs xs → sum_by (at p t) xs ≡ 0
 put_new cs xs t p c x k v =
-    let le = each_le (at p t) (put_since p t) (λ y. at_since p t t y (omega arith)) xs in
+    let le = sum_by-le-sum_by (at p t) (put_since p t) xs (λ y. at_since p t t y (omega arith)) in
     let s = v.spaced p t in
     let w : allowed t (get_or cs p None) ≡ allowed t (Some c) = ap (allowed t) k.granted in
     let n = allowed_none t c.spacing.0 c.last k.spacing (next_now c t k.consent) in
@@ -158,7 +153,7 @@ contracted_of r xs v = record { parties = parties r; cells = λ p e k. cells p e
   where
     cells : (p e : ℕ) → contracts_of r.contracts p ≡ None → held_in xs p e ≡ None
     cells p e k =
-        let le = each_le (at p e) (put_since p 0) (λ y. at_since p e 0 y (omega arith)) xs in
+        let le = sum_by-le-sum_by (at p e) (put_since p 0) xs (λ y. at_since p e 0 y (omega arith)) in
         let s = v.spaced p 0 in
         let w = ap (allowed 0) k in
         held_none p e xs (omega arith)
@@ -200,7 +195,7 @@ past_of r xs v = record { lasts = lasts r; cells = λ p e l c h k. cells p e l c
     cells : (p e l : ℕ) (c : Contract) → held_in xs p e ≡ Some l → contracts_of r.contracts p ≡ Some c → Since c.last e
     cells p e l c h k =
         let some = held_some p e l xs h in
-        let le = each_le (at p e) (put_since p e) (λ y. at_since p e e y (omega arith)) xs in
+        let le = sum_by-le-sum_by (at p e) (put_since p e) xs (λ y. at_since p e e y (omega arith)) in
         let s = v.spaced p e in
         let w = ap (allowed e) k in
         allowed_since e c.spacing.0 c.last (terms r p c k).spacing_least (omega arith)

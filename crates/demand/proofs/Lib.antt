@@ -1,6 +1,7 @@
 pub mod Counts
 pub mod Sums
 pub mod Tables
+pub mod Below
 pub mod Cells
 pub mod Spacing
 pub mod Room

@@ -16,10 +16,6 @@ module _ {X : Type 0} where
       omega (arith, sum_by-cons f x xs, sum_by-cons g x xs, h 0 (omega arith), ih)
 
   -- the same of every record
-  pub each_le : (f g : X → ℕ) → ((x : X) → f x ≤ g x) → (xs : List X) → sum_by f xs ≤ sum_by g xs
-  each_le f g h [] = omega arith
-  each_le f g h (x ∷ xs) = omega (arith, sum_by-cons f x xs, sum_by-cons g x xs, h x, each_le f g h xs)
-
   pub each_le_add : (f g k : X → ℕ) → ((x : X) → f x ≤ g x + k x) → (xs : List X) → sum_by f xs ≤ sum_by g xs + sum_by k xs
   each_le_add f g k h [] = omega arith
   each_le_add f g k h (x ∷ xs) = omega (arith, sum_by-cons f x xs, sum_by-cons g x xs, sum_by-cons k x xs, h x, each_le_add f g k h xs)

@@ -1,8 +1,9 @@
 -- Held cells beside the contracts of their parties.
-use Rattle.std.specs.Prelude.{◌≡◌, ℕ, ◌+◌, ◌≤◌, max, cond, List, Some, None, sum_by, Option, ◌==◌, nat_le, nat_lt, slice_index_or}
+use Rattle.std.specs.Prelude.{◌≡◌, ℕ, ◌+◌, ◌<◌, ◌≤◌, max, cond, List, length, Some, None, sum_by, Option, ◌==◌, nat_le, nat_lt, slice_index_or}
 use Rattle.cells.specs.declared.times.Slot.{Slot}
+use Rattle.scheduler.specs.declared.terms.Cell.{Cell}
 use Rattle.scheduler.specs.declared.terms.Contract.{Contract}
-use Rattle.scheduler.specs.Meaning.{Meaning}
+use Rattle.scheduler.specs.Meaning.{Meaning, put_rule}
 use Rattle.scheduler.specs.Tables.{contracts_of, bound_or}
 use Rattle.backlog.specs.declared.held.Held.{Held}
 use Rattle.backlog.specs.Cells.{due_of, held_in, at}
@@ -12,6 +13,11 @@ use Rattle.demand.specs.Totals.{total_of, places}
 -- what a slot, a contract table and held cells mean
 abbrev pub meaning_of : ℕ → List (Option Contract) → List Held → Meaning
 meaning_of t cs xs = record { slot = t; contracts = contracts_of cs; held = held_in xs }
+
+-- the cell of what is held
+abbrev pub cell_of : Option Held → Option Cell
+cell_of None = None
+cell_of (Some x) = Some x.cell
 
 -- the earliest slot from t on in which a contract of spacing s may put again: t, or last + s if that is later
 abbrev pub next_slot : ℕ → ℕ → Option Slot → ℕ
@@ -47,3 +53,13 @@ pub record Orderly (cs : List (Option Contract)) (xs : List Held) : Type 0 where
   pub spaced : (p a : ℕ) → sum_by (put_since p a) xs ≤ allowed a (slice_index_or cs p None)
   pub agreed : (p : ℕ) → sum_by (stray p (bound_or (slice_index_or cs p None))) xs ≡ 0
   pub fits : total_of places cs ≤ 128
+
+-- x is a cell that party p puts in slot t: it has the contract c, which may put then, and the cell is eligible then, under its bound
+pub record Puts (cs : List (Option Contract)) (t p : ℕ) (c : Contract) (x : Held) : Type 0 where
+  pub inside : p < length cs
+  pub granted : slice_index_or cs p None ≡ Some c
+  pub consent : put_rule (Some c) t ≡ None
+  pub spacing : 1 ≤ c.spacing.0
+  pub party : x.cell.party ≡ p
+  pub eligible : x.cell.eligible.0 ≡ t
+  pub bound : x.bound.0 ≡ c.bound.0

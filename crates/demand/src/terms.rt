@@ -1,8 +1,10 @@
 //! The terms of a contract.
 
-ghost use Rattle.std.specs.Prelude.{◌≤◌};
+ghost use Rattle.std.specs.Prelude.{◌≡◌, ◌≤◌};
+ghost use Rattle.scheduler.specs.Laws.{Terms as Ranged};
 
 use cells::times::Span;
+use scheduler::terms::Contract;
 
 /// The terms of a contract, in range: cells come at least `spacing` slots apart, and each is sent
 /// within `bound` slots, the one in which it becomes eligible counted.
@@ -14,4 +16,18 @@ pub struct Terms {
     ghost near: { spacing.0 ≤ 1024 },
     ghost bounded: { 1 ≤ bound.0 },
     ghost prompt: { bound.0 ≤ 128 },
+}
+
+impl Terms {
+    /// What a contract in range says of its cells, whatever was put under it.
+    pub(crate) fn from_contract(contract: Contract) -> Terms
+        requires { Ranged contract }
+        ensures spacing { result.spacing ≡ contract.spacing }
+        ensures bound { result.bound ≡ contract.bound }
+    {
+        Terms {
+            spacing: contract.spacing,
+            bound: contract.bound,
+        }
+    }
 }

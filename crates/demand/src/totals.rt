@@ -1,7 +1,7 @@
 //! Sums over a contract table.
 
-ghost use Rattle.std.specs.Prelude.{◌≡◌, ℕ, ◌≤◌};
-ghost use Rattle.scheduler.specs.Tables.{spacing_or, bound_or};
+ghost use Rattle.std.specs.Prelude.{◌≡◌, ℕ, IfSome};
+ghost use Rattle.scheduler.specs.Laws.{Terms as Ranged};
 ghost use Rattle.demand.specs.Counts.{ceil};
 ghost use Rattle.demand.specs.Totals.{each_of, total_of, places, exceeds_table};
 
@@ -34,31 +34,21 @@ pub trait Demand {
 
 // What the contract asks for, nothing where there is none.
 fn share<D: Demand>(demand: &D, contract: Option<Contract>) -> u32
-    requires spaced { 1 ≤ spacing_or contract }
-    requires near { spacing_or contract ≤ 1024 }
-    requires bounded { 1 ≤ bound_or contract }
-    requires prompt { bound_or contract ≤ 128 }
+    requires { IfSome contract Ranged }
     ensures { result ≡ each_of (D.asks demand.now) contract }
 {
-    match contract {
-        Some(granted) => demand.of(&Terms {
-            spacing: granted.spacing,
-            bound: granted.bound,
-        }),
-        None => 0,
-    }
+    contract.map_or(0, |granted| demand.of(&Terms::from_contract(granted)))
 }
 
 /// What all contracts of a register ask for together.
 pub fn total<D: Demand>(register: &Register, demand: &D) -> u64
     ensures { result ≡ total_of (D.asks demand.now) register.now.contracts }
 {
-    let contracts = register.contracts();
-    let mut sum = 0;
-    for i in 0..16 {
-        sum += share(demand, contracts[i]) as u64;
-    }
-    sum
+    register
+        .contracts()
+        .iter()
+        .map(|contract| u64::from(share(demand, *contract)))
+        .sum()
 }
 
 /// The places that the held cells of a contract may take up at a time.

@@ -1,5 +1,5 @@
 -- A test up to the end of a busy period is a test for ever.
-use Rattle.std.specs.Prelude.{◌≡◌, ℕ, zero, suc, ◌+◌, ◌-◌, ◌<◌, ◌≤◌, Bool, true, false, leb, List, Some, None, Option, nat_le, nat_lt, slice_index_or, refl}
+use Rattle.std.specs.Prelude.{◌≡◌, ℕ, zero, suc, ◌+◌, ◌-◌, ◌<◌, ◌≤◌, Bool, true, false, leb, List, Some, None, Option, MatchOption, nat_le, nat_lt, slice_index_or, refl}
 use Rattle.std.proofs.Common.{sym, ap, subst, ◌∙◌, ⊎_elim, arith}
 use Rattle.std.proofs.lemmas.Bool.{cases_lt, cases_Bool, cond-true, cond-false, leb-true, ltb-false}
 use Rattle.scheduler.specs.declared.terms.Contract.{Contract}
@@ -32,6 +32,11 @@ least_found (suc n) a i f l h none t =
 pub least_none : (n a : ℕ) (f : ℕ → Bool) → ((k : ℕ) → a ≤ k → k < a + n → f k ≡ false) → least_from n a f ≡ None
 least_none zero a f none = refl
 least_none (suc n) a f none = cond-false (f a) (Some a) (least_from n (a + 1) f) (none a (omega arith) (omega arith)) ∙ least_none n (a + 1) f (λ k u v. none k (omega arith) (omega arith))
+
+-- the least number that passes, from what a search up from a answered
+pub least_is : (n a : ℕ) (f : ℕ → Bool) (o : Option ℕ) → MatchOption o ((k : ℕ) → a ≤ k → k < a + n → f k ≡ false) (λ i. (a ≤ i) × (i < a + n) × (f i ≡ true) × ((k : ℕ) → a ≤ k → k < i → f k ≡ false)) → o ≡ least_from n a f
+least_is n a f None h = sym (least_none n a f h)
+least_is n a f (Some i) h = sym (least_found n a i f h.0 h.1 h.3 h.2)
 
 pub period_one : (cs : List (Option Contract)) → nat_le (work_in cs 1) 1 ≡ true → busy_period cs ≡ Some 1
 unfolding busy_period

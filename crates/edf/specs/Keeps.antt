@@ -1,31 +1,25 @@
--- What an EDF scheduler keeps.
-use Rattle.std.specs.Prelude.{◌≡◌, ℕ, ◌+◌, ◌-◌, ◌<◌, ◌≤◌, true, false, List, [], ◌∷◌, ◌++◌, length, Some, None, sum_by, Option, slice_index_or, slice_set}
-use Rattle.std.proofs.Common.{ap, subst, ◌∙◌, ⊎_elim, arith}
+-- What an EDF scheduler keeps: cells that are held, and that can still come, find slots before they are due.
+use Rattle.std.specs.Prelude.{◌≡◌, ℕ, ◌+◌, ◌-◌, ◌<◌, ◌≤◌, true, false, List, [], ◌∷◌, ◌++◌, Some, None, sum_by, Option, slice_index_or, slice_set}
+use Rattle.std.proofs.Common.{ap, subst, ⊎_elim, arith}
 use Rattle.std.proofs.lemmas.List.Sums.{sum_by-set, sum_by_push}
-use Rattle.std.proofs.lemmas.Bool.{cases_lt}
+use Rattle.std.proofs.lemmas.Bool.{cases_lt, le-leb, leb-true}
 use Rattle.std.proofs.lemmas.Bool.Decides.{nat_tests}
-use Rattle.order.specs.First.{foremost}
 use Rattle.scheduler.specs.declared.terms.Contract.{Contract}
 use Rattle.scheduler.specs.Meaning.{stamped}
 use Rattle.scheduler.specs.Tables.{spacing_or}
 use Rattle.backlog.specs.declared.held.Held.{Held}
-use Rattle.backlog.specs.Cells.{due_of, holds_in, Taken}
-use Rattle.demand.specs.Cells.{next_slot, due_before, Orderly}
-use Rattle.demand.specs.Totals.{each_of, total_of, places}
+use Rattle.backlog.specs.Cells.{due_of}
+use Rattle.demand.specs.Cells.{next_slot, due_before}
+use Rattle.demand.specs.Totals.{each_of}
 use Rattle.demand.proofs.Cells.{before_yes, before_no}
 use Rattle.demand.proofs.Counts.{jobs_mono, jobs_next}
-use Rattle.demand.proofs.Firsts.{foremost_none, foremost_least}
-use Rattle.demand.proofs.Keeps.{Puts, orderly_none, orderly_taken, orderly_withdrawn, orderly_put}
+use Rattle.demand.proofs.Firsts.{foremost_least}
 use Rattle.demand.proofs.Spacing.{next_now, next_from, next_later}
 use Rattle.demand.proofs.Sums.{sum_le, sum_zero}
-use Rattle.demand.proofs.Tables.{total_used, total_gone}
 use Rattle.edf.specs.Admission.{due_in, demand_in}
-use Rattle.edf.specs.Coming.{earlier, coming}
-
-pub record Sound (t : ℕ) (cs : List (Option Contract)) (xs : List Held) : Type 0 where
-  pub orderly : Orderly cs xs
-  pub tested : (n : ℕ) → demand_in cs n ≤ n
-  pub timely : (n : ℕ) → sum_by (due_before (t + n)) xs + sum_by (coming t (t + n)) cs ≤ n
+use Rattle.ordered.specs.States.{Sound}
+use Rattle.ordered.specs.Laws.{KeptIdle, KeptServed, KeptWithdrawn, KeptPut, Prompt}
+use Rattle.edf.specs.Coming.{earlier, coming, timely_in}
 
 -- what can come from slot t on is at most what the test counts
 coming-due : (t n : ℕ) (o : Option Contract) → 1 ≤ spacing_or o → coming t (t + n) o ≤ each_of (due_in n) o
@@ -70,59 +64,58 @@ module _ (cs : List (Option Contract)) (pos : (p : ℕ) → 1 ≤ spacing_or (sl
   all_later : (t u e : ℕ) → t ≤ u → sum_by (coming u e) cs ≤ sum_by (coming t e) cs
   all_later t u e le = sum_le (coming u e) (coming t e) cs None (λ i l. coming_later t u e (slice_index_or cs i None) le (pos i))
 
-  -- nothing held
-  pub sound_none : (t : ℕ) (xs : List Held) → xs ≡ [] → total_of places cs ≤ 128 → ((n : ℕ) → demand_in cs n ≤ n) → Sound t cs xs
-  sound_none t xs e fit test = record {
-    orderly = orderly_none cs xs e fit;
-    tested = test;
-    timely = λ n. (let z : sum_by (due_before (t + n)) xs ≡ 0 = ap (sum_by (due_before (t + n))) e in let k = all_coming t n in let h = test n in omega arith);
-  }
+abbrev Keeps : ℕ → List (Option Contract) → List Held → Type 0
+Keeps t cs xs = Sound due_in (λ n. n) timely_in t cs xs
 
-  -- a slot in which the cell that is due first is served
-  pub sound_served : (t : ℕ) (xs ys : List Held) (o : Option Held) → foremost earlier xs ≡ o → Taken xs o ys → Sound t cs xs → Sound (t + 1) cs ys
-  sound_served t xs ys None e k v = sound_none (t + 1) ys (k ∙ foremost_none earlier xs e) v.orderly.fits v.tested
-  sound_served t xs ys (Some x) e k v = record {
-    orderly = orderly_taken cs xs ys (Some x) k v.orderly;
-    tested = v.tested;
-    timely = λ n. ⊎_elim
-        (λ (lt : due_of x < t + 1 + n).
-        (let one = before_yes (t + 1 + n) x lt in
-        let less = k (due_before (t + 1 + n)) in
-        let was = v.timely (n + 1) in
-        let same : t + (n + 1) ≡ t + 1 + n = omega arith in
-        let then = subst (λ u. sum_by (due_before u) xs + sum_by (coming t u) cs ≤ n + 1) same was in
-        let rest = all_later t (t + 1) (t + 1 + n) (omega arith) in
-        omega arith))
-        (λ (ge : t + 1 + n ≤ due_of x).
-        (let none = sum_zero (due_before (t + 1 + n)) xs x (λ i l. before_no (t + 1 + n) (slice_index_or xs i x) (let q = not_earlier x (slice_index_or xs i x) (foremost_least earlier earlier_asym earlier_weak xs x e i x l) in omega arith)) in
-        let less = k (due_before (t + 1 + n)) in
-        let rest = all_coming (t + 1) n in
-        let test = v.tested n in
-        omega arith))
-        (cases_lt (due_of x) (t + 1 + n));
-  }
+-- what is kept of each number of slots
+each : (n t : ℕ) (cs : List (Option Contract)) (xs : List Held) → Keeps t cs xs → sum_by (due_before (t + n)) xs + sum_by (coming t (t + n)) cs ≤ n
+each n t cs xs v = leb-true (sum_by (due_before (t + n)) xs + sum_by (coming t (t + n)) cs) n (v.kept n)
 
-  -- a contract withdrawn
-  pub sound_withdrawn : (t : ℕ) (xs : List Held) (p : ℕ) → p < length cs → holds_in xs p ≡ false → Sound t cs xs → Sound t (slice_set cs p None) xs
-  sound_withdrawn t xs p pin none v = record {
-    orderly = orderly_withdrawn cs xs p pin none v.orderly;
-    tested = λ n. (let g = total_gone (due_in n) cs p pin in let h = v.tested n in omega arith);
-    timely = λ n. (let g = sum_by-set (coming t (t + n)) cs p None None pin in let h = v.timely n in omega arith);
-  }
+-- nothing is held
+pub idle : KeptIdle due_in (λ n. n) timely_in
+idle n t cs spaced test = le-leb (sum_by (due_before (t + n)) [] + sum_by (coming t (t + n)) cs) n (let k = all_coming cs spaced t n in let h = test n in omega arith)
 
-  -- a cell put
-  pub sound_put : (t : ℕ) (xs : List Held) (p : ℕ) (c : Contract) (x : Held) → Puts cs t p c x → Sound t cs xs → Sound t (slice_set cs p (Some (stamped c t))) (xs ++ x ∷ [])
-  sound_put t xs p c x k v = record {
-    orderly = orderly_put cs xs t p c x k v.orderly;
-    tested = λ n. (let g = total_used (due_in n) cs p t c k.inside k.granted in let h = v.tested n in omega arith);
-    timely = λ n.
-        (let push = sum_by_push (due_before (t + n)) xs x in
-        let write = sum_by-set (coming t (t + n)) cs p (Some (stamped c t)) None k.inside in
-        let was = ap (coming t (t + n)) k.granted in
-        let eb = k.bound in
-        let el = k.eligible in
-        let pos = x.bounded in
-        let one = coming_put c t (t + n) x k.spacing (next_now c t k.consent) (omega arith) (omega arith) in
-        let h = v.timely n in
-        omega arith);
-  }
+-- a slot in which the cell that is due first is served
+pub served : KeptServed due_in (λ n. n) timely_in earlier
+served n t cs xs ys x spaced e k v = le-leb (sum_by (due_before (t + 1 + n)) ys + sum_by (coming (t + 1) (t + 1 + n)) cs) n (
+    ⊎_elim
+    (λ (lt : due_of x < t + 1 + n).
+    (let one = before_yes (t + 1 + n) x lt in
+    let less = k (due_before (t + 1 + n)) in
+    let was = each (n + 1) t cs xs v in
+    let same : t + (n + 1) ≡ t + 1 + n = omega arith in
+    let then = subst (λ u. sum_by (due_before u) xs + sum_by (coming t u) cs ≤ n + 1) same was in
+    let rest = all_later cs spaced t (t + 1) (t + 1 + n) (omega arith) in
+    omega arith))
+    (λ (ge : t + 1 + n ≤ due_of x).
+    (let none = sum_zero (due_before (t + 1 + n)) xs x (λ i l. before_no (t + 1 + n) (slice_index_or xs i x) (let q = not_earlier x (slice_index_or xs i x) (foremost_least earlier earlier_asym earlier_weak xs x e i x l) in omega arith)) in
+    let less = k (due_before (t + 1 + n)) in
+    let rest = all_coming cs spaced (t + 1) n in
+    let test = v.tested n in
+    omega arith))
+    (cases_lt (due_of x) (t + 1 + n)))
+
+-- a contract withdrawn
+pub withdrawn : KeptWithdrawn due_in (λ n. n) timely_in
+withdrawn n t p cs xs pin none v = le-leb (sum_by (due_before (t + n)) xs + sum_by (coming t (t + n)) (slice_set cs p None)) n (
+    let g = sum_by-set (coming t (t + n)) cs p None None pin in let h = each n t cs xs v in omega arith)
+
+-- a cell put
+pub put : KeptPut due_in (λ n. n) timely_in
+put n t p cs xs c x spaced k v = le-leb (sum_by (due_before (t + n)) (xs ++ x ∷ []) + sum_by (coming t (t + n)) (slice_set cs p (Some (stamped c t)))) n (
+    let push = sum_by_push (due_before (t + n)) xs x in
+    let write = sum_by-set (coming t (t + n)) cs p (Some (stamped c t)) None k.inside in
+    let was = ap (coming t (t + n)) k.granted in
+    let eb = k.bound in
+    let el = k.eligible in
+    let pos = x.bounded in
+    let one = coming_put c t (t + n) x k.spacing (next_now c t k.consent) (omega arith) (omega arith) in
+    let h = each n t cs xs v in
+    omega arith)
+
+-- none is due before the slot
+pub prompt : Prompt due_in (λ n. n) timely_in
+prompt t cs xs v =
+    let h = each 0 t cs xs v in
+    let e : sum_by (due_before (t + 0)) xs ≡ sum_by (due_before t) xs = ap (λ u. sum_by (due_before u) xs) (let z : t + 0 ≡ t = omega arith in z) in
+    omega arith

@@ -1,6 +1,6 @@
 pub mod Admission
 pub mod Coming
-pub mod States
+pub mod Served
 pub mod Laws
 pub mod Busy
 pub mod Keeps

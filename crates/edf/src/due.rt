@@ -7,7 +7,7 @@ use backlog::held::Held;
 use order::Order;
 
 /// Held cells by due slot, then by party.
-#[derive(Drop)]
+#[derive(Clone, Copy, Default)]
 pub struct ByDue;
 
 impl Order<Held> for ByDue {
@@ -18,7 +18,6 @@ impl Order<Held> for ByDue {
     ghost transitive = { Prim.search rules };
 
     fn before(&self, x: &Held, y: &Held) -> bool {
-        let (a, b) = (x.due(), y.due());
-        a < b || a == b && x.cell.party < y.cell.party
+        (x.due(), x.cell.party) < (y.due(), y.cell.party)
     }
 }

@@ -3,6 +3,5 @@
 #![tactic(auto)]
 
 mod admission;
-pub mod calls;
-mod due;
+pub mod due;
 pub mod state;

@@ -4,9 +4,9 @@
 ghost use Rattle.std.specs.Prelude.{◌≡◌};
 ghost use Rattle.scheduler.specs.Meaning.{fresh};
 ghost use Rattle.cells.specs.Makes.{make_of};
-ghost use Rattle.makes.specs.Made.{numbered, meaning_of_any};
 
 use edf::state::Edf;
+use scheduler::Scheduler;
 use sp::state::Sp;
 use switch::state::Switch;
 use table::state::Table;
@@ -16,8 +16,8 @@ pub type AnyMake = Switch<Edf, Sp, Table>;
 
 /// A fresh scheduler of the make with this number: 0 is EDF, 1 is SP, every other number is TABLE.
 pub fn make(number: u8) -> AnyMake
-    ensures make { numbered result ≡ make_of number }
-    ensures meaning { meaning_of_any result ≡ fresh }
+    ensures make { result.make ≡ make_of number }
+    ensures meaning { ⟦<Switch<Edf, Sp, Table> as Scheduler>⟧.meaning result ≡ fresh }
 {
     Switch::new(number, Edf::new(), Sp::new(), Table::new())
 }

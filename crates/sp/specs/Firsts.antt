@@ -1,6 +1,7 @@
 -- The first held cell in the order of serving.
 use Rattle.std.specs.Prelude.{◌≡◌, ℕ, ◌+◌, ◌<◌, ◌≤◌, true, false, cond, List, Some, None, sum_by, Option, nat_lt, slice_index_or}
 use Rattle.std.proofs.Common.{sym, ap, subst, inl, inr, arith}
+use Rattle.std.proofs.lemmas.List.Sums.{sum_by-le-sum_by}
 use Rattle.std.proofs.lemmas.Bool.{cases_Bool, cases_lt}
 use Rattle.std.proofs.lemmas.Bool.Decides.{nat_tests}
 use Rattle.order.specs.First.{foremost}
@@ -10,14 +11,13 @@ use Rattle.scheduler.specs.Tables.{bound_or}
 use Rattle.backlog.specs.declared.held.Held.{Held}
 use Rattle.backlog.specs.Cells.{held_in, at}
 use Rattle.backlog.proofs.HeldCells.{held_foremost}
-use Rattle.demand.specs.Cells.{meaning_of, stray, Orderly}
-use Rattle.demand.proofs.Sums.{each_le, each_le_add, sum_zero}
+use Rattle.demand.specs.Cells.{meaning_of, cell_of, stray, Orderly}
+use Rattle.demand.proofs.Sums.{each_le_add, sum_zero}
 use Rattle.demand.proofs.Firsts.{foremost_none, foremost_least}
 use Rattle.demand.proofs.Keeps.{held_some, bound_at}
 use Rattle.sp.specs.Levels.{level, below_then, level_of, precedes}
 use Rattle.sp.specs.Ends.{low}
 use Rattle.sp.specs.Served.{goes_before, GoesFirst}
-use Rattle.sp.specs.States.{cell_of}
 
 -- the order of serving is one
 pub asymmetric : (x y : Held) → precedes x y ≡ true → precedes y x ≡ false
@@ -43,7 +43,7 @@ lowest xs x l first some =
     elim (cases_lt l (level_of x)) [
       | inl h ↦
           let none = none_before xs x first in
-          let less = each_le (low l) (before x) (λ y. low_before l x y h) xs in
+          let less = sum_by-le-sum_by (low l) (before x) xs (λ y. low_before l x y h) in
           absurd (omega arith)
       | inr h ↦ h
     ]

@@ -1,10 +1,9 @@
 -- Levels, the test of each level at which a contract stands, and the order of serving.
-use Rattle.std.specs.Prelude.{ℕ, zero, suc, ◌^◌, Bool, true, false, cond, List, map, None, Option, ◌==◌, nat_le, nat_lt}
-use Rattle.std.specs.List.{range_with_len}
+use Rattle.std.specs.Prelude.{ℕ, zero, suc, ◌^◌, Bool, true, false, cond, List, None, Option, ◌==◌, nat_le, nat_lt}
 use Rattle.cells.specs.declared.faults.Cause.{Cause}
 use Rattle.cells.specs.declared.faults.Cause.TheVariants.{LevelExceeded}
 use Rattle.scheduler.specs.declared.terms.Contract.{Contract}
-use Rattle.scheduler.specs.Meaning.{Meaning, some_below, refused_if, granted}
+use Rattle.scheduler.specs.Meaning.{some_below, refused_if}
 use Rattle.backlog.specs.declared.held.Held.{Held}
 use Rattle.demand.specs.Counts.{ceil}
 use Rattle.demand.specs.Totals.{total_of, table_first}
@@ -45,14 +44,6 @@ levels_exceeded cs = some_below 8 (overfull cs)
 -- the test of contracts that would stand together: the places of the table first, then the levels
 abbrev pub sp_verdict : List (Option Contract) → Option Cause
 sp_verdict cs = table_first cs (refused_if (levels_exceeded cs) LevelExceeded None)
-
--- the contracts of parties 0 to 15, as a table
-abbrev pub table_of : (ℕ → Option Contract) → List (Option Contract)
-table_of f = map f (range_with_len 0 16)
-
--- its answer to a proposed contract: the test of the contracts as they would stand with that one
-abbrev pub sp_judges : Meaning → ℕ → ℕ → ℕ → Option Cause
-sp_judges m p s d = sp_verdict (table_of (granted m p s d).contracts)
 
 -- the level of a held cell is that of its party's contract
 abbrev pub level_of : Held → ℕ

@@ -1,10 +1,8 @@
 pub mod Levels
 pub mod Ends
 pub mod Served
-pub mod States
 pub mod Keeps
 pub mod Powers
 pub mod Tested
 pub mod Firsts
 pub mod Suffice
-pub mod SpSchedulerLemmas

@@ -2,7 +2,7 @@
 use Rattle.std.specs.Prelude.{◌≡◌, ℕ, zero, suc, ◌+◌, ◌-◌, ◌*◌, ◌^◌, ◌<◌, ◌≤◌, max, Bool, true, false, cond, List, length, Some, None, sum_by, Option, ◌==◌, nat_le, nat_lt, slice_index_or, slice_set, refl}
 use Rattle.std.proofs.Common.{ap, subst, ◌∙◌, inl, inr, arith}
 use Rattle.std.proofs.lemmas.Nat.{pow_pos}
-use Rattle.std.proofs.lemmas.List.Sums.{sum_by-set}
+use Rattle.std.proofs.lemmas.List.Sums.{sum_by-set, sum_by-le-sum_by}
 use Rattle.std.proofs.lemmas.Bool.{both_ways, leb-true, le-leb, eqb-true, eq-eqb, le-ltb, cond_both, cases_lt}
 use Rattle.std.proofs.lemmas.Bool.Decides.{nat_tests}
 use Rattle.order.specs.First.{foremost}
@@ -20,7 +20,7 @@ use Rattle.sp.specs.Ends.{arriving, low, stale, suffices, has_end}
 use Rattle.sp.specs.Firsts.{lowest}
 use Rattle.demand.proofs.Counts.{jobs_least, jobs_mono, jobs_next, ceil_reach}
 use Rattle.demand.proofs.Spacing.{next_from, next_later}
-use Rattle.demand.proofs.Sums.{each_le, sum_le, sum_zero}
+use Rattle.demand.proofs.Sums.{sum_le, sum_zero}
 
 -- every contract of a table has a spacing
 abbrev Spacings : List (Option Contract) → Type 0
@@ -112,7 +112,7 @@ stale-low : (l b : ℕ) (x : Held) → stale l b x ≤ low l x
 stale-low l b x = pick_le (nat_le (level_of x) l) _ 1 (cond_both (nat_lt (x.cell.eligible.0 + 2 ^ l) b) 1 0 (λ k. k ≤ 1) (λ _. omega arith) (λ _. omega arith))
 
 sum_stale : (xs : List Held) (l b : ℕ) → sum_by (stale l b) xs ≤ sum_by (low l) xs
-sum_stale xs l b = each_le (stale l b) (low l) (stale-low l b) xs
+sum_stale xs l b = sum_by-le-sum_by (stale l b) (low l) xs (stale-low l b)
 
 level-low : (l : ℕ) (x : Held) → level_of x ≤ l → low l x ≡ 1
 level-low l x h = ap (λ b. cond b 1 0) (le-leb (level_of x) l h)

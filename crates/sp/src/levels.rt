@@ -1,11 +1,18 @@
-//! Levels, and the test of each level at which a contract stands.
+//! Levels, and the test of contracts by the levels at which they stand.
 
 ghost use Rattle.std.specs.Prelude.{◌≡◌, ◌^◌, ◌<◌, ◌≤◌};
-ghost use Rattle.sp.specs.Levels.{level, one_at, share, shares, overfull, levels_exceeded};
+ghost use Rattle.sp.specs.Ends.{has_end};
+ghost use Rattle.sp.specs.Keeps;
+ghost use Rattle.sp.specs.Levels.{level, one_at, share, shares, overfull, levels_exceeded, sp_verdict};
+ghost use Rattle.sp.specs.Served.{GoesFirst};
 
+use crate::serving::ByLevel;
+use cells::faults::{Cause, Fault};
 use cells::times::Span;
 use demand::terms::Terms;
-use demand::totals::{Demand, total};
+use demand::totals::{Demand, exceeds_table, total};
+use ordered::discipline::Discipline;
+use scheduler::changes::refused;
 use scheduler::register::Register;
 
 /// How many levels there are.
@@ -30,11 +37,7 @@ impl Demand for Standing {
     ghost asks = { λ x. one_at x.level };
 
     fn of(&self, terms: &Terms) -> u32 {
-        if level_of(terms.bound) == self.level {
-            1
-        } else {
-            0
-        }
+        u32::from(level_of(terms.bound) == self.level)
     }
 }
 
@@ -80,17 +83,56 @@ fn is_overfull(register: &Register, level: u32) -> bool
     requires { level < 8 }
     ensures { result ≡ overfull register.now.contracts level }
 {
-    total(register, &Standing { level }) > 0 && shares_at(register, level) > span_of(level).0 as u64
+    total(register, &Standing { level }) > 0
+        && shares_at(register, level) > u64::from(span_of(level).0)
 }
 
 /// Whether some level at which a contract stands has more cells than slots.
 pub(crate) fn exceeds_levels(register: &Register) -> bool
     ensures { result ≡ levels_exceeded register.now.contracts }
 {
-    for level in 0..LEVELS {
-        if is_overfull(register, level) {
-            return true;
+    (0..LEVELS).any(|level| is_overfull(register, level))
+}
+
+/// The test of contracts that would stand together: the places for their held cells first, then
+/// each level at which one stands. Those of a level or lower may put no more cells in its span than
+/// there are slots, and each level has an end until which its slots suffice.
+impl Discipline for ByLevel {
+    ghost verdict = { sp_verdict };
+
+    ghost asks = { λ l. share l (2 ^ l) };
+
+    ghost limit = { λ l. 2 ^ l };
+
+    ghost keeps = { λ l t cs xs. has_end l cs xs t };
+
+    ghost serves = { GoesFirst };
+
+    ghost tests = { Keeps.tests };
+
+    ghost alone = { Keeps.alone };
+
+    ghost own = { Keeps.own };
+
+    ghost idle = { Keeps.idle };
+
+    ghost served = { λ _. Keeps.served };
+
+    ghost withdrawn = { Keeps.withdrawn };
+
+    ghost put = { Keeps.put };
+
+    ghost prompt = { Keeps.prompt };
+
+    ghost first = { λ _. Keeps.first };
+
+    fn admit(&self, register: &Register, party: u8) -> Result<(), Fault> {
+        if exceeds_table(register) {
+            return Err(refused(Cause::TableExceeded, party));
         }
+        if exceeds_levels(register) {
+            return Err(refused(Cause::LevelExceeded, party));
+        }
+        Ok(())
     }
-    false
 }

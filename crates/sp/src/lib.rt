@@ -2,7 +2,6 @@
 //! bound; a held cell of a lower level goes before one of a higher.
 #![tactic(auto)]
 
-pub mod calls;
 mod levels;
-mod serving;
+pub mod serving;
 pub mod state;

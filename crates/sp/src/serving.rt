@@ -8,8 +8,8 @@ use backlog::held::Held;
 use order::Order;
 
 /// The order of serving: the lower level, then the earlier eligible slot, then the lower party.
-#[derive(Drop)]
-pub(crate) struct ByLevel;
+#[derive(Clone, Copy, Default)]
+pub struct ByLevel;
 
 impl Order<Held> for ByLevel {
     ghost ahead = { λ _. precedes };
@@ -19,11 +19,7 @@ impl Order<Held> for ByLevel {
     ghost transitive = { Prim.search rules };
 
     fn before(&self, x: &Held, y: &Held) -> bool {
-        let (a, b) = (level_of(x.bound), level_of(y.bound));
-        if a != b {
-            return a < b;
-        }
-        let (a, b) = (x.cell.eligible, y.cell.eligible);
-        a < b || a == b && x.cell.party < y.cell.party
+        let (x_level, y_level) = (level_of(x.bound), level_of(y.bound));
+        (x_level, x.cell.eligible, x.cell.party) < (y_level, y.cell.eligible, y.cell.party)
     }
 }

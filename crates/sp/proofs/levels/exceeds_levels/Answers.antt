@@ -1,17 +1,11 @@
-use Rattle.std.proofs.Common.{sym, arith, below_more}
-use Rattle.scheduler.proofs.Holds.{below_true, below_false}
+use Rattle.std.proofs.Common.{rules, tests}
+use Rattle.std.proofs.iter.runs.Sources.{ranges}
+use Rattle.demand.proofs.Below.{below_is, any_of}
 use Rattle.sp.specs.Levels.{overfull, levels_exceeded}
 use Rattle.sp.proofs.levels.exceeds_levels.Goals as goal
-
-pub returns-then-is_overfull : goal.returns-then-is_overfull
-unfolding levels_exceeded
-returns-then-is_overfull c =
-    sym (below_true 8 (overfull c.args.register.now.contracts) c.loop-level.level c.loop-level-test.true (sym c.if-is_overfull.ensures))
-
-pub loop-level-preserved : goal.loop-level-preserved
-loop-level-preserved c = below_more _ _ c.loop-level.invariant (sym c.if-is_overfull.ensures)
 
 pub returns : goal.returns
 unfolding levels_exceeded
 returns c =
-    sym (below_false 8 (overfull c.args.register.now.contracts) (λ k h. c.loop-level.invariant k (omega (arith, c.loop-level-test.false))))
+    let test = overfull c.args.register.now.contracts in
+    below_is 8 test c.any.result (any_of c.any.ensures.runs.0 0 8 (search (rules, ranges)) _ test _ c.any.result c.any.ensures.runs.2 (λ a r f k. search (rules, tests)) (λ x r k. search (rules, tests)))
