@@ -1,22 +1,31 @@
 -- What is answered under a verdict, and an end by its parts.
-use Rattle.std.proofs.Common.{◌≡◌, ℕ, zero, suc, ◌+◌, ◌<◌, ◌≤◌, Bool, true, false, cond, eqb, ltb, List, [], get_or, set, replicate, is_some, Some, None, Ok, Err, Option, sym, refl, ap, ◌∙◌, subst, arith}
-use Rattle.std.proofs.lemmas.Bool.{cond-false, ltb-false, le-ltb}
+use Rattle.std.proofs.Common.{◌≡◌, ℕ, zero, suc, ◌+◌, ◌<◌, ◌≤◌, min, Bool, true, false, cond, eqb, ltb, List, [], get_or, set, replicate, is_some, Some, None, Ok, Err, Option, sym, refl, ap, ◌∙◌, subst, arith}
+use mathlib.Core.Path.{fun_ext}
+use Rattle.std.proofs.lemmas.Bool.{cond-true, cond-false, ltb-false, le-ltb}
+use Rattle.std.proofs.Math.Logic.{∥∥₁_map}
+use Rattle.calendar.specs.declared.grid.Calendar.{Calendar}
 use Rattle.calendar.specs.Days.{now_of, waiting_of}
+use Rattle.calendar.specs.Rows.{room}
+use Rattle.calendar.proofs.Waits.{slots_range}
+use Rattle.calendar.proofs.Windows.{room_from}
 use Rattle.cells.specs.declared.faults.Cause.TheVariants.{PartyOutOfRange, PartyHasContract, SpacingOutOfRange, CellsPresent}
 use Rattle.cells.specs.declared.faults.Fault.{Fault}
+use Rattle.cells.specs.declared.times.Slot.{Slot}
 use Rattle.cells.specs.declared.times.Span.{Span}
 use Rattle.header.specs.declared.Header.{Header}
 use Rattle.scheduler.specs.Meaning.{last_slot, updated, outside}
 use Rattle.scheduler.proofs.Updates.{table-set}
 use Rattle.paths.specs.declared.trail.Trail.{Trail}
-use Rattle.paths.specs.Route.{Route, Terms, ticked}
-use Rattle.paths.specs.Verdicts.{fault, answered, refused_if, refused_at, holds_any, bad_bound, own_number, bad_hop, common_rule, admitted, grant_rule, grant_verdict, withdraw_rule}
+use Rattle.paths.specs.Route.{Route, Terms, fresh, entered, ticked}
+use Rattle.paths.specs.Verdicts.{fault, answered, refused_if, refused_at, holds_of, holds_any, bad_bound, own_number, bad_hop, common_rule, admitted, grant_rule, grant_verdict, granted, withdraw_rule, withdrawn, arrival_rule}
 use Rattle.paths.proofs.Kept.{consents, consents_at, no_first, inside}
+use Rattle.paths.proofs.Opened.{lawful_opened, newest_opened}
 use Rattle.paths.proofs.Present.{none_some}
 use Rattle.ends.specs.declared.end.End.{End}
 use Rattle.ends.specs.declared.trails.Trails.{Trails}
-use Rattle.ends.specs.Ends.{trail_of, terms_in, still_any, Noted, route_of, end_route, Tracked, Sound}
-use Rattle.ends.proofs.Steps.{any_is, route_ticked, tracked_ticked}
+use Rattle.ends.specs.Ends.{number_in, trail_of, terms_of, terms_in, still_any, arrival_at, Noted, route_of, Tracked}
+use Rattle.ends.specs.Meant.{end_route}
+use Rattle.ends.proofs.Steps.{Later, tracked_fresh, any_is, arrival_is, arrival_near, route_granted, tracked_granted, route_withdrawn, tracked_withdrawn, route_entered, tracked_entered, route_ticked, tracked_ticked}
 
 -- consent
 pub answered_ok : (v : Option Fault) → Ok tt ≡ answered v → v ≡ None
@@ -55,11 +64,18 @@ pub contracted : (o : Option Trail) → is_some o ≡ is_some (terms_in o)
 contracted None = refl
 contracted (Some y) = refl
 
+-- what every end has
+pub tracked_of : (x : End) → Tracked (end_route x) (trail_of x.trails)
+tracked_of x = record {
+  lawful = lawful_opened (end_route x) (∥∥₁_map x.tracked (λ t. t.lawful));
+  newest = λ p y e. newest_opened (end_route x) (terms_of y) p 0 y.latest (∥∥₁_map x.tracked (λ t. t.newest p y e));
+}
+
 -- the rule of a grant, by what was looked up
-pub rule_by : (x : End) → Sound x → (p s lead : ℕ) (bs : List Span) (known : Bool) (bad : Option ℕ) (busy : Bool) → known ≡ is_some (trail_of x.trails p) → bad ≡ bad_hop x.first [] bs lead → busy ≡ still_any (trail_of x.trails) (now_of x.waiting) → common_rule known bad busy p s None ≡ grant_rule (end_route x) p s bs lead None
-rule_by x sound p s lead bs known bad busy a b c =
+pub rule_by : (x : End) (p s lead : ℕ) (bs : List Span) (known : Bool) (bad : Option ℕ) (busy : Bool) → known ≡ is_some (trail_of x.trails p) → bad ≡ bad_hop x.first [] bs lead → busy ≡ still_any (trail_of x.trails) (now_of x.waiting) → common_rule known bad busy p s None ≡ grant_rule (end_route x) p s bs lead None
+rule_by x p s lead bs known bad busy a b c =
     let knows = a ∙ contracted (trail_of x.trails p) in
-    let holds = c ∙ sym (any_is (now_of x.waiting) x.first (trail_of x.trails) (waiting_of x.waiting) sound) in
+    let holds = c ∙ sym (any_is (now_of x.waiting) x.first (trail_of x.trails) (waiting_of x.waiting) (tracked_of x)) in
     λ i. common_rule (knows i) (b i) (holds i) p s None
 
 -- its verdict: the rule, and then the room
@@ -99,9 +115,13 @@ withdrawal (Some t) false p e = refl
 pub trails_set : (t u : Trails) (p : ℕ) (o : Option Trail) → p < 16 → u.parties ≡ set t.parties p o → trail_of u ≡ updated (trail_of t) p o
 trails_set t u p o h e = ap (λ xs q. get_or xs q None) e ∙ table-set (λ o. o) t.parties p o None (omega (arith, t.whole))
 
--- an end that means what the laws are known of
-pub made_sound : (x : End) (r : Route) (ts : ℕ → Option Trail) → end_route x ≡ r → trail_of x.trails ≡ ts → Tracked r ts → Sound x
-made_sound x r ts a b t = subst (λ us. Tracked (end_route x) us) (sym b) (subst (λ z. Tracked z ts) (sym a) t)
+-- what parts mean, and that they can be those of an end
+pub record Becomes (z : Route) (us : ℕ → Option Trail) (r : Route) : Type 0 where
+  pub route : z ≡ r
+  pub tracked : ∥ Tracked z us ∥₁
+
+pub becomes : {z r : Route} {us ts : ℕ → Option Trail} → z ≡ r → us ≡ ts → Tracked r ts → Becomes z us r
+becomes {z} {r} {us} {ts} a b t = record { route = a; tracked = ∣ subst (Tracked z) (sym b) (subst (λ z. Tracked z ts) (sym a) t) ∣₁ }
 
 -- nothing stands in an empty table
 pub blank : {X : Type 0} (n p : ℕ) → ◌≡◌ {A = Option X} (get_or (replicate n None) p None) None
@@ -109,17 +129,76 @@ blank zero p = refl
 blank (suc n) zero = refl
 blank (suc n) (suc p) = blank n p
 
--- the end one slot on
-module _ (x z : End) (sound : Sound x) (ss : List (Option Header)) (low : now_of x.waiting ≤ last_slot) (first : z.first ≡ x.first)
-    (slot : now_of z.waiting ≡ cond (ltb last_slot (now_of x.waiting)) (now_of x.waiting) (now_of x.waiting + 1))
-    (cells : waiting_of z.waiting ≡ (λ p e. cond (eqb e (now_of x.waiting)) None (waiting_of x.waiting p e)))
-    (notes : (p : ℕ) → Noted (trail_of x.trails p) (waiting_of x.waiting p (now_of x.waiting)) (now_of x.waiting) (trail_of z.trails p)) where
-  pub end_ticked : end_route z ≡ ticked (end_route x) ss
-  end_ticked =
-      let n = now_of x.waiting in
-      let next : now_of z.waiting ≡ n + 1 = slot ∙ cond-false (ltb last_slot n) n (n + 1) (le-ltb last_slot n low) in
-      (λ i. route_of (next i) (first i) (trail_of z.trails) (cells i))
-      ∙ route_ticked n x.first (trail_of x.trails) (waiting_of x.waiting) sound ss (trail_of z.trails) notes
+-- an end that was just made
+pub end_fresh : (k : ℕ) (q : Calendar) (u : Trails) → k ≤ 8 → now_of q ≡ 0 → waiting_of q ≡ (λ p e. None) → u.parties ≡ replicate 16 None
+    → Becomes (route_of (now_of q) k (trail_of u) (waiting_of q)) (trail_of u) (fresh k [])
+end_fresh k q u few slot waits none =
+    let trails : trail_of u ≡ (λ p. None) = fun_ext (λ p. ap (λ (xs : List (Option Trail)). get_or xs p None) none ∙ blank 16 p) in
+    becomes (λ i. route_of (slot i) k (trails i) (waits i)) trails (tracked_fresh k few)
 
-  pub sound_ticked : Sound z
-  sound_ticked = made_sound z (ticked (end_route x) ss) (trail_of z.trails) end_ticked refl (tracked_ticked (now_of x.waiting) x.first (trail_of x.trails) (waiting_of x.waiting) sound ss (trail_of z.trails) notes low)
+-- an end with another contract
+pub end_granted : (x : End) (p s lead : ℕ) (bs : List Span) (y : Trail) (u : Trails) → u.parties ≡ set x.trails.parties p (Some y)
+    → y.spacing.0 ≡ s → y.lead.0 ≡ lead → y.latest ≡ None → y.last ≡ None → grant_rule (end_route x) p s bs lead None ≡ None
+    → Becomes (route_of (now_of x.waiting) x.first (trail_of u) (waiting_of x.waiting)) (trail_of u) (granted (end_route x) p s bs lead)
+end_granted x p s lead bs y u written spaces leads latest last rule =
+    let n = now_of x.waiting in
+    let ts = trail_of x.trails in
+    let w = waiting_of x.waiting in
+    let i = in_range (is_some ((end_route x).contracts p)) x.first bs (holds_any (end_route x)) p s lead rule in
+    let trails = trails_set x.trails u p (Some y) (omega (arith, i.low)) written in
+    becomes (ap (λ us. route_of n x.first us w) trails ∙ route_granted n x.first ts w (tracked_of x) p s lead bs y spaces leads latest last) trails
+    (tracked_granted n x.first ts w (tracked_of x) p s lead bs y spaces leads latest last rule)
+
+-- with one less
+pub end_withdrawn : (x : End) (p : ℕ) (u : Trails) → p < 16 → u.parties ≡ set x.trails.parties p None → holds_of (end_route x) p ≡ false
+    → Becomes (route_of (now_of x.waiting) x.first (trail_of u) (waiting_of x.waiting)) (trail_of u) (withdrawn (end_route x) p)
+end_withdrawn x p u low written none =
+    let n = now_of x.waiting in
+    let ts = trail_of x.trails in
+    let w = waiting_of x.waiting in
+    let trails = trails_set x.trails u p None low written in
+    becomes (ap (λ us. route_of n x.first us w) trails ∙ route_withdrawn n x.first ts w (tracked_of x) p) trails (tracked_withdrawn n x.first ts w (tracked_of x) p none)
+
+-- an arrival that is not refused, and an end with its cell
+pub record Arrived (x : End) (p e l : ℕ) (q : Calendar) (u : Trails) : Type 0 where
+  pub rule : arrival_rule (end_route x) ((end_route x).contracts p) p e ≡ None
+  pub after : Becomes (route_of (now_of q) x.first (trail_of u) (waiting_of q)) (trail_of u) (entered (end_route x) p e l)
+
+pub end_arrived : (x : End) (p e l : ℕ) (y z : Trail) (d : Slot) (q : Calendar) (u : Trails) → p < 16 → d.0 ≡ min e 4294967295
+    → trail_of x.trails p ≡ Some y → arrival_at (trail_of x.trails p) (waiting_of x.waiting p) (now_of x.waiting) p d.0 ≡ None
+    → z.spacing ≡ y.spacing → z.lead ≡ y.lead → z.last ≡ y.last → Later y.latest d z.latest → now_of q ≡ now_of x.waiting
+    → waiting_of q ≡ cond (room (now_of x.waiting) p d.0) (updated (waiting_of x.waiting) p (updated (waiting_of x.waiting p) d.0 (Some l))) (waiting_of x.waiting)
+    → u.parties ≡ set x.trails.parties p (Some z) → Arrived x p e l q u
+end_arrived x p e l y z d q u low sum has clear spacing lead last latest slot cells written =
+    let r = end_route x in
+    let n = now_of x.waiting in
+    let ts = trail_of x.trails in
+    let w = waiting_of x.waiting in
+    let t = tracked_of x in
+    let near = arrival_near y (w p) n p e d.0 (slots_range x.waiting) sum (ap (λ o. arrival_at o (w p) n p d.0) (sym has) ∙ clear) in
+    let at = near.0 in
+    let from = near.1 in
+    let to = near.2 in
+    let rule : arrival_rule r (r.contracts p) p e ≡ None = sym (arrival_is n x.first ts w t p e) ∙ ap (arrival_at (ts p) (w p) n p) (sym at) ∙ clear in
+    let same : terms_of z ≡ terms_of y = λ i. record { spacing = (spacing i).0; bounds = (terms_of y).bounds; lead = (lead i).0; last = number_in (last i) } in
+    let has_room : room n p d.0 ≡ true = room_from n p d.0 (omega arith) from (omega arith) in
+    let waits : waiting_of q ≡ updated w p (updated (w p) e (Some l)) = cells ∙ cond-true (room n p d.0) _ _ has_room ∙ ap (λ (k : ℕ). updated w p (updated (w p) k (Some l))) at in
+    let trails = trails_set x.trails u p (Some z) low written in
+    record {
+      rule = rule;
+      after = becomes ((λ i. route_of (slot i) x.first (trails i) (waits i)) ∙ route_entered n x.first ts w t p e l y z has same) trails
+          (tracked_entered n x.first ts w t p e l y z has same (ap (λ o. arrival_rule r (terms_in o) p e) (sym has) ∙ rule) d at latest);
+    }
+
+-- one slot on
+pub end_ticked : (x : End) (q : Calendar) (u : Trails) (ss : List (Option Header)) → now_of x.waiting ≤ last_slot
+    → now_of q ≡ cond (ltb last_slot (now_of x.waiting)) (now_of x.waiting) (now_of x.waiting + 1)
+    → waiting_of q ≡ (λ p e. cond (eqb e (now_of x.waiting)) None (waiting_of x.waiting p e))
+    → ((p : ℕ) → Noted (trail_of x.trails p) (waiting_of x.waiting p (now_of x.waiting)) (now_of x.waiting) (trail_of u p))
+    → Becomes (route_of (now_of q) x.first (trail_of u) (waiting_of q)) (trail_of u) (ticked (end_route x) ss)
+end_ticked x q u ss low slot cells notes =
+    let n = now_of x.waiting in
+    let ts = trail_of x.trails in
+    let w = waiting_of x.waiting in
+    let next : now_of q ≡ n + 1 = slot ∙ cond-false (ltb last_slot n) n (n + 1) (le-ltb last_slot n low) in
+    becomes ((λ i. route_of (next i) x.first (trail_of u) (cells i)) ∙ route_ticked n x.first ts w (tracked_of x) ss (trail_of u) notes) refl (tracked_ticked n x.first ts w (tracked_of x) ss (trail_of u) notes low)

@@ -1,9 +1,8 @@
--- What the end of a path means.
+-- What the end of a path has, by its parts.
 use Rattle.std.specs.Prelude.{◌≡◌, ℕ, Bool, false, [], Some, None, Ok, Err, Option, Result, slice_index_or}
 use Rattle.cells.specs.declared.faults.Cause.TheVariants.{NoContract, TooSoon, EligibleOutOfWindow}
 use Rattle.cells.specs.declared.faults.Fault.{Fault}
 use Rattle.cells.specs.declared.times.Slot.{Slot}
-use Rattle.calendar.specs.Days.{now_of, waiting_of}
 use Rattle.scheduler.specs.Meaning.{some_below}
 use Rattle.paths.specs.declared.trail.Trail.{Trail}
 use Rattle.paths.specs.Laws.{Lawful}
@@ -11,7 +10,6 @@ use Rattle.paths.specs.Route.{Route, Terms, Place, noted}
 use Rattle.paths.specs.Trails.{crowding, still, Newest}
 use Rattle.paths.specs.Verdicts.{fault, refused_if, out_of_window}
 use Rattle.ends.specs.declared.trails.Trails.{Trails}
-use Rattle.ends.specs.declared.end.End.{End}
 
 -- the trail of each party, none past the table
 abbrev pub trail_of : Trails → ℕ → Option Trail
@@ -71,15 +69,7 @@ place_in (Some l) = Some (record { label = l; hop = 0 })
 abbrev pub route_of : ℕ → ℕ → (ℕ → Option Trail) → (ℕ → ℕ → Option ℕ) → Route
 route_of n k ts w = record { slot = n; first = k; links = []; contracts = λ p. terms_in (ts p); cells = λ p v. place_in (w p v) }
 
--- what the end means
-abbrev pub end_route : End → Route
-end_route x = route_of (now_of x.waiting) x.first (trail_of x.trails) (waiting_of x.waiting)
-
 -- the laws hold, and each trail says which cell of its party is the latest: a cell leaves in its eligible slot
 pub record Tracked (r : Route) (ts : ℕ → Option Trail) : Type 0 where
   pub lawful : Lawful r
   pub newest : (p : ℕ) (y : Trail) → ts p ≡ Some y → Newest r (terms_of y) p 0 y.latest
-
--- the parts of an end agree
-abbrev pub Sound : End → Type 0
-Sound x = Tracked (end_route x) (trail_of x.trails)

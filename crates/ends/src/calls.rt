@@ -2,8 +2,9 @@
 
 ghost use Rattle.std.specs.Prelude.{◌≡◌, ◌+◌, ◌≤◌, min, []};
 ghost use Rattle.paths.specs.Route.{fresh};
-ghost use Rattle.ends.specs.Ends.{end_route, Sound};
-ghost use Rattle.std.proofs.Common.{rules};
+ghost use Rattle.ends.specs.Meant.{end_route};
+ghost use Rattle.std.proofs.Math.Logic.{∥∥₁_elim};
+ghost use Rattle.std.proofs.Props.{props};
 
 use crate::checks::bad_hop;
 use crate::delivery::send_nothing;
@@ -30,8 +31,7 @@ fn eligible(arrival: Slot, ahead: Span) -> Slot
 impl End {
     /// With no hop in front: slot 0, no contract, no cell.
     pub fn new() -> End
-        ensures sound { Sound result }
-        ensures route { end_route result ≡ fresh 0 [] }
+        ensures { end_route result ≡ fresh 0 [] }
     {
         End::behind(0)
     }
@@ -39,8 +39,7 @@ impl End {
     // With so many hops in front: slot 0, no contract, no cell.
     fn behind(first: u8) -> End
         requires { first ≤ 8 }
-        ensures sound { Sound result }
-        ensures route { end_route result ≡ fresh first [] }
+        ensures { end_route result ≡ fresh first [] }
     {
         End {
             first,
@@ -53,11 +52,9 @@ impl End {
 impl Path for End {
     ghost route = { end_route };
 
-    ghost sound = { Sound };
-
     ghost tests = { λ _. [] };
 
-    ghost lawful = { Prim.search rules };
+    ghost lawful = { λ x. ∥∥₁_elim x.tracked (Prim.hlevel props) (λ t. t.lawful) };
 
     fn slot(&self) -> Slot {
         self.waiting.slot()

@@ -5,6 +5,7 @@ pub mod Enters
 pub mod Grants
 pub mod Handover
 pub mod Levels
+pub mod Opened
 pub mod Presence
 pub mod RowSteps
 pub mod Seen

@@ -6,11 +6,12 @@ ghost use Rattle.scheduler.specs.Meaning.{last_slot, put_verdict};
 ghost use Rattle.paths.specs.Route.{fresh};
 ghost use Rattle.paths.specs.Verdicts.{answered, unless, holds_of, holds_any, bad_hop, withdraw_verdict, withdrawn};
 ghost use Rattle.hops.specs.Crossed.{crossings_of, Took};
-ghost use Rattle.hops.specs.Hops.{hop_route, hop_sound};
+ghost use Rattle.hops.specs.Hops.{hop_route};
 ghost use Rattle.hops.specs.Rows.{with_row};
 ghost use Rattle.hops.specs.Sent.{Ready, Handed};
 ghost use Rattle.scheduler.specs.declared.terms.Cell.{Cell};
-ghost use Rattle.std.proofs.Common.{rules, arith};
+ghost use Rattle.std.proofs.Math.Logic.{∥∥₁_elim};
+ghost use Rattle.std.proofs.Props.{props};
 
 use crate::crossing::Crossing;
 use crate::crossings::Crossings;
@@ -30,53 +31,46 @@ use scheduler::Scheduler;
 use scheduler::changes::out_of_range;
 use scheduler::terms::Cell;
 
-impl<S: Scheduler, P: Path> Hop<S, P> {
-    /// Puts the cells that have waited for this slot into the scheduler, and ends the slot of the calendar.
-    fn admit(&mut self)
-        requires slots { now_of self.old.waiting ≤ last_slot }
-        requires consent { (p l : ℕ) → waiting_of self.old.waiting p (now_of self.old.waiting) ≡ Some l → put_verdict (S.Scheduler.meaning self.old.scheduler) p ≡ None }
-        ensures number { self.new.number ≡ self.old.number }
-        ensures link { self.new.link ≡ self.old.link }
-        ensures behind { self.new.behind ≡ self.old.behind }
-        ensures sched { S.Scheduler.meaning self.new.scheduler ≡ with_row (λ p. waiting_of self.old.waiting p (now_of self.old.waiting)) (S.Scheduler.meaning self.old.scheduler) }
-        ensures day { now_of self.new.waiting ≡ now_of self.old.waiting + 1 }
-        ensures waits { waiting_of self.new.waiting ≡ (λ p e. (if nat_eq e (now_of self.old.waiting) then None else waiting_of self.old.waiting p e)) }
-        ensures crossings { (p : ℕ) → Took (waiting_of self.old.waiting p (now_of self.old.waiting)) (now_of self.old.waiting) (crossings_of self.old.crossings p) (crossings_of self.new.crossings p) }
-    {
-        let slot = self.waiting.slot();
-        if let Some(row) = self.waiting.next_day() {
-            put_row(&mut self.scheduler, &row);
-            self.crossings.take_row(&row, slot);
-        }
+/// Puts the cells that have waited for this slot into the scheduler, and ends the slot of the calendar.
+fn admit<S: Scheduler>(scheduler: &mut S, waiting: &mut Calendar, crossings: &mut Crossings)
+    requires slots { now_of waiting.old ≤ last_slot }
+    requires consent { (p l : ℕ) → waiting_of waiting.old p (now_of waiting.old) ≡ Some l → put_verdict (S.Scheduler.meaning scheduler.old) p ≡ None }
+    ensures sched { S.Scheduler.meaning scheduler.new ≡ with_row (λ p. waiting_of waiting.old p (now_of waiting.old)) (S.Scheduler.meaning scheduler.old) }
+    ensures day { now_of waiting.new ≡ now_of waiting.old + 1 }
+    ensures waits { waiting_of waiting.new ≡ (λ p e. (if nat_eq e (now_of waiting.old) then None else waiting_of waiting.old p e)) }
+    ensures crossings { (p : ℕ) → Took (waiting_of waiting.old p (now_of waiting.old)) (now_of waiting.old) (crossings_of crossings.old p) (crossings_of crossings.new p) }
+{
+    let slot = waiting.slot();
+    if let Some(row) = waiting.next_day() {
+        put_row(scheduler, &row);
+        crossings.take_row(&row, slot);
     }
+}
 
-    /// Sends a cell that was served in a slot: the path behind takes it, with its header.
-    fn send(&mut self, served: Option<Cell>, slot: Slot) -> Option<Header>
-        requires sound { P.Path.sound self.old.behind }
-        requires ready { (c : Cell) → served ≡ Some c → Ready (crossings_of self.old.crossings) self.old.link.0 slot.0 (P.Path.route self.old.behind) c }
-        ensures number { self.new.number ≡ self.old.number }
-        ensures link { self.new.link ≡ self.old.link }
-        ensures scheduler { self.new.scheduler ≡ self.old.scheduler }
-        ensures waiting { self.new.waiting ≡ self.old.waiting }
-        ensures crossings { self.new.crossings ≡ self.old.crossings }
-        ensures kept { P.Path.sound self.new.behind }
-        ensures handed { Handed (crossings_of self.old.crossings) self.old.link.0 slot.0 served result (P.Path.route self.old.behind) (P.Path.route self.new.behind) }
-    {
-        let cell = served?;
-        let Some(crossing) = self.crossings.of(cell.party) else {
-            unreachable()
-        };
-        let header = header_of(cell, crossing.bound, slot);
-        forward(&mut self.behind, header, arrival_of(slot, self.link));
-        Some(header)
-    }
+/// Sends a cell that was served in a slot over a link: the path behind takes it, with its header.
+fn send<P: Path>(
+    crossings: &Crossings,
+    link: Span,
+    behind: &mut P,
+    served: Option<Cell>,
+    slot: Slot,
+) -> Option<Header>
+    requires link { link.0 ≤ 63 }
+    requires ready { (c : Cell) → served ≡ Some c → Ready (crossings_of crossings.now) link.0 slot.0 (P.Path.route behind.old) c }
+    ensures { Handed (crossings_of crossings.now) link.0 slot.0 served result (P.Path.route behind.old) (P.Path.route behind.new) }
+{
+    let cell = served?;
+    let Some(crossing) = crossings.of(cell.party) else {
+        unreachable()
+    };
+    let header = header_of(cell, crossing.bound, slot);
+    forward(behind, header, arrival_of(slot, link));
+    Some(header)
 }
 
 impl<S: Scheduler, P: Path> Hop<S, P> {
     /// Whether a cell of the party is on the path.
     fn holds_cell(&self, party: u8) -> bool
-        requires sound { hop_sound S.Scheduler.meaning P.Path.route self.now }
-        requires behind { P.Path.sound self.now.behind }
         ensures { result ≡ holds_of (hop_route S.Scheduler.meaning P.Path.route self.now) party }
     {
         match self.crossings.of(party) {
@@ -89,8 +83,6 @@ impl<S: Scheduler, P: Path> Hop<S, P> {
 
     /// Whether any cell is on the path.
     fn busy(&self) -> bool
-        requires sound { hop_sound S.Scheduler.meaning P.Path.route self.now }
-        requires behind { P.Path.sound self.now.behind }
         ensures { result ≡ holds_any (hop_route S.Scheduler.meaning P.Path.route self.now) }
     {
         for party in 0..16 {
@@ -103,8 +95,6 @@ impl<S: Scheduler, P: Path> Hop<S, P> {
 
     /// The lowest hop with a bad bound; a lead out of range counts as this one.
     fn bad_hop(&self, bounds: &[Span; 8], lead: Span) -> Option<u8>
-        requires sound { hop_sound S.Scheduler.meaning P.Path.route self.now }
-        requires behind { P.Path.sound self.now.behind }
         ensures { result ≡ bad_hop self.now.number (self.now.link.0 ∷ (P.Path.route self.now.behind).links) bounds.now lead.0 }
     {
         if out_of_range(1, LEAD_MAX, lead) {
@@ -115,12 +105,8 @@ impl<S: Scheduler, P: Path> Hop<S, P> {
 
     /// Takes away the contract of a party that crosses, here and behind, unless a cell of it is on the path.
     fn uncross(&mut self, party: u8, crossing: Crossing) -> Result<(), Fault>
-        requires sound { hop_sound S.Scheduler.meaning P.Path.route self.old }
-        requires behind { P.Path.sound self.old.behind }
         requires crosses { crossings_of self.old.crossings party ≡ Some crossing }
         requires party { party < 16 }
-        ensures kept { hop_sound S.Scheduler.meaning P.Path.route self.new }
-        ensures behind { P.Path.sound self.new.behind }
         ensures answer { result ≡ answered (withdraw_verdict (hop_route S.Scheduler.meaning P.Path.route self.old) party) }
         ensures becomes { hop_route S.Scheduler.meaning P.Path.route self.new ≡ unless (withdraw_verdict (hop_route S.Scheduler.meaning P.Path.route self.old) party) (hop_route S.Scheduler.meaning P.Path.route self.old) (withdrawn (hop_route S.Scheduler.meaning P.Path.route self.old) party) }
     {
@@ -143,11 +129,9 @@ impl<S: Scheduler, P: Path> Hop<S, P> {
 impl<S: Scheduler, P: Path> Path for Hop<S, P> {
     ghost route = { λ h. hop_route S.Scheduler.meaning P.Path.route h };
 
-    ghost sound = { λ h. hop_sound S.Scheduler.meaning P.Path.route h × P.Path.sound h.behind };
-
     ghost tests = { λ h. S.Scheduler.test h.scheduler ∷ P.Path.tests h.behind };
 
-    ghost lawful = { first_of (Prim.search rules, Prim.grind (arith, Self.row.coded.inj)) };
+    ghost lawful = { λ h. ∥∥₁_elim h.sound (Prim.hlevel props) (λ s. s.level.lawful) };
 
     fn slot(&self) -> Slot {
         self.waiting.slot()
@@ -218,12 +202,12 @@ impl<S: Scheduler, P: Path> Path for Hop<S, P> {
     ) -> Result<(), Fault> {
         let slot = self.waiting.slot();
         self.behind.tick(deliveries, sends)?;
-        self.admit();
+        admit(&mut self.scheduler, &mut self.waiting, &mut self.crossings);
         let served = match self.scheduler.serve() {
             Ok(served) => served,
             Err(_) => unreachable(),
         };
-        let sent = self.send(served, slot);
+        let sent = send(&self.crossings, self.link, &mut self.behind, served, slot);
         note(sends, self.number, sent);
         Ok(())
     }

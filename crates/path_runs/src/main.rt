@@ -66,8 +66,7 @@ impl Place {
     /// The hop here, before a path.
     fn before<P: Path>(&self, behind: P) -> Hop<AnyMake, P>
         requires { length (P.Path.route behind).links < 8 }
-        ensures sound { ⟦<Hop<AnyMake, P> as Path>⟧.sound result }
-        ensures links { length (⟦<Hop<AnyMake, P> as Path>⟧.route result).links ≡ length (P.Path.route behind).links + 1 }
+        ensures { length (⟦<Hop<AnyMake, P> as Path>⟧.route result).links ≡ length (P.Path.route behind).links + 1 }
     {
         Hop::new(make(self.kind), self.link, behind)
     }
@@ -96,10 +95,7 @@ fn say_got(rt: &HostRuntime, slot: u32, deliveries: &[Option<Delivery>; 16]) -> 
 
 /// Ends the line of its command, and then so many slots, or as many as there are, and says what was
 /// sent and delivered in each.
-fn ticks<P: Path>(rt: &HostRuntime, path: &mut P, slots: u32) -> anyhow::Result<()>
-    requires { P.Path.sound path.old }
-    ensures { P.Path.sound path.new }
-{
+fn ticks<P: Path>(rt: &HostRuntime, path: &mut P, slots: u32) -> anyhow::Result<()> {
     rt.println("")?;
     for _ in 0..slots {
         let slot = path.slot().0;
@@ -130,10 +126,7 @@ fn bytes_of(heap: Global, words: &[&str]) -> anyhow::Result<Vec<u8>> {
 }
 
 /// Carries out the command that these words write, and ends its line with what it answered.
-fn obey<P: Path>(rt: &HostRuntime, path: &mut P, words: &[&str]) -> anyhow::Result<()>
-    requires { P.Path.sound path.old }
-    ensures { P.Path.sound path.new }
-{
+fn obey<P: Path>(rt: &HostRuntime, path: &mut P, words: &[&str]) -> anyhow::Result<()> {
     match words {
         ["GRANT", party, spacing, lead, bounds @ ..] => {
             let spacing = Span(spacing.parse()?);
@@ -163,10 +156,7 @@ fn obey<P: Path>(rt: &HostRuntime, path: &mut P, words: &[&str]) -> anyhow::Resu
 }
 
 /// Carries out the commands of a path.
-fn run<P: Path>(rt: &HostRuntime, path: &mut P, commands: &str) -> anyhow::Result<()>
-    requires { P.Path.sound path.old }
-    ensures { P.Path.sound path.new }
-{
+fn run<P: Path>(rt: &HostRuntime, path: &mut P, commands: &str) -> anyhow::Result<()> {
     for line in commands.lines() {
         print!(rt; "{}", line.replace(rt.alloc(), ' ', "\t")?)?;
         let words = line.split(' ').collect::<Vec<&str>>(rt.alloc())?;

@@ -1,5 +1,6 @@
 pub mod BadBounds
 pub mod Kept
+pub mod Opened
 pub mod Present
 pub mod Trails
 pub mod Ways

@@ -27,30 +27,23 @@ pub trait Path {
     // what it means: slot, links, contracts and cells
     ghost route: { Self → Route };
 
-    // what every path that was made has and every call keeps: its parts agree
-    ghost sound: { Self → Type 0 };
-
     // the tests of the schedulers at its hops, the front one first
     ghost tests: { Self → List Test };
 
     /// The slot.
     fn slot(&self) -> Slot
-        requires { sound self.now }
         ensures { result.0 ≡ (route self.now).slot };
 
     /// How many hops it has.
     fn hops(&self) -> u8
-        requires { sound self.now }
         ensures { result ≡ length (route self.now).links };
 
     /// The path constant of a party: the slots from its entry to its delivery. None without a contract.
     fn constant(&self, party: u8) -> Option<Span>
-        requires { sound self.now }
         ensures { result ≡ constant_in (route self.now).links ((route self.now).contracts party) };
 
     /// Whether a cell of the party is on the path.
     fn holds(&self, party: u8) -> bool
-        requires { sound self.now }
         ensures { result ≡ holds_of (route self.now) party };
 
     /// Adds a contract. Of the eight bounds, this path takes those of its own hops.
@@ -61,22 +54,16 @@ pub trait Path {
         bounds: &[Span; 8],
         lead: Span,
     ) -> Result<(), Fault>
-        requires { sound self.old }
-        ensures kept { sound self.new }
         ensures answer { result ≡ answered (grant_verdict (route self.old) (tests self.old) party spacing.0 bounds.now lead.0) }
         ensures becomes { route self.new ≡ unless (grant_verdict (route self.old) (tests self.old) party spacing.0 bounds.now lead.0) (route self.old) (granted (route self.old) party spacing.0 bounds.now lead.0) };
 
     /// Takes a contract away, at every hop and at the end.
     fn withdraw(&mut self, party: u8) -> Result<(), Fault>
-        requires { sound self.old }
-        ensures kept { sound self.new }
         ensures answer { result ≡ answered (withdraw_verdict (route self.old) party) }
         ensures becomes { route self.new ≡ unless (withdraw_verdict (route self.old) party) (route self.old) (withdrawn (route self.old) party) };
 
     /// Takes a cell that arrives in a slot, with its header.
     fn enter(&mut self, header: &[u8], arrival: Slot) -> Result<(), Fault>
-        requires { sound self.old }
-        ensures kept { sound self.new }
         ensures answer { result ≡ answered (enter_verdict (route self.old) header.now arrival.0) }
         ensures becomes { route self.new ≡ unless (enter_verdict (route self.old) header.now arrival.0) (route self.old) (entered_by (route self.old) (header_of header.now) arrival.0) };
 
@@ -87,8 +74,6 @@ pub trait Path {
         deliveries: &mut [Option<Delivery>; 16],
         sends: &mut [Option<Header>; 8],
     ) -> Result<(), Fault>
-        requires { sound self.old }
-        ensures kept { sound self.new }
         ensures answer { result ≡ answered (tick_verdict (route self.old)) }
         ensures becomes { route self.new ≡ unless (tick_verdict (route self.old)) (route self.old) (ticked (route self.old) sends.new) }
         ensures deliveries { Delivers (tick_verdict (route self.old)) (route self.old) deliveries.old deliveries.new }
@@ -97,9 +82,8 @@ pub trait Path {
     /// Makes it fresh, whatever it held, with so many hops in front of it: slot 0, no contract, no cell.
     fn reset(&mut self, first: u8)
         requires { first + length (route self.old).links ≤ 8 }
-        ensures kept { sound self.new }
         ensures becomes { route self.new ≡ fresh first (route self.old).links };
 
     // what a route keeps: no cell is due at its hop below the slot, a party's cells leave a spacing apart, and all is in range
-    ghost lawful: { (x : Self) → sound x → Lawful (route x) };
+    ghost lawful: { (x : Self) → Lawful (route x) };
 }

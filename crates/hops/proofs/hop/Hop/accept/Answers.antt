@@ -7,67 +7,94 @@ use Rattle.hops.specs.Level.{Level}
 use Rattle.hops.proofs.Enters.{Later}
 use Rattle.hops.proofs.Levels.{waiting_parts, putting_parts}
 use Rattle.hops.proofs.Arrivals.{later_by, same_on, waits_entered, waits_level, puts_entered, puts_level, puts_consent}
+use Rattle.hops.proofs.Opened.{sound_opened}
 use Rattle.hops.proofs.hop.Hop.accept.Goals as goal
 
 pub hold-requires : goal.hold-requires
 hold-requires g c =
     let h = c.args.self.now in
     let k = parts_of g.S.Scheduler.meaning g.P.Path.route h in
-    let now = eqb-true c.args.eligible.0 c.slot.result.0 (sym c.eq.ensures ∙ c.if-eq.true) ∙ c.slot.ensures ∙ c.requires.sound.days in
+    let s = sound_opened (now_of h.waiting) k h.sound in
+    let now = eqb-true c.args.eligible.0 c.slot.result.0 (sym c.eq.ensures ∙ c.if-eq.true) ∙ c.slot.ensures ∙ s.days in
     record {
       party = c.requires.party;
-      consent = puts_consent k c.requires.sound.level c.args.arrived.party (g.met.S.Scheduler.past h.scheduler) c.args.crossing c.requires.crosses c.args.eligible.0 c.requires.consent now;
+      consent = puts_consent k s.level c.args.arrived.party (g.met.S.Scheduler.past h.scheduler) c.args.crossing c.requires.crosses c.args.eligible.0 c.requires.consent now;
     }
 
-pub returns-then-eq : goal.returns-then-eq
-returns-then-eq g c =
+pub invariant_of-self-clause-sound : goal.invariant_of-self-clause-sound
+invariant_of-self-clause-sound g c =
     let h = c.args.self.now in
     let k = parts_of g.S.Scheduler.meaning g.P.Path.route h in
+    let s = sound_opened (now_of h.waiting) k h.sound in
     let p = c.args.arrived.party in
     let l = c.args.arrived.label in
     let e = c.args.eligible.0 in
     let x = c.args.crossing in
     let x' = c.taking.result in
-    let lev = c.requires.sound.level in
+    let lev = s.level in
     let past = g.met.S.Scheduler.past h.scheduler in
-    let now = eqb-true c.args.eligible.0 c.slot.result.0 (sym c.eq.ensures ∙ c.if-eq.true) ∙ c.slot.ensures ∙ c.requires.sound.days in
+    let now = eqb-true c.args.eligible.0 c.slot.result.0 (sym c.eq.ensures ∙ c.if-eq.true) ∙ c.slot.ensures ∙ s.days in
     let same = same_on c.entering-noted.ensures.same c.taking.ensures.same in
     let later = subst (Later x.trail.latest e) (sym c.taking.ensures.latest) (later_by x.trail.latest c.entering-noted.result.trail.latest c.args.eligible c.entering-noted.ensures.latest) in
     let o = c.hold.ensures in
-    let z = c.hold.new.self in
-    let at : parts z.number z.link.0 (g.S.Scheduler.meaning z.scheduler) (waiting_of z.waiting) (crossings_of z.crossings) (g.P.Path.route z.behind) ≡ putting_parts k lev p l x' =
-    (λ i. parts (o.number i) (o.link i).0 (o.sched i) (waiting_of (o.waiting i)) (o.crossings i) (g.P.Path.route (o.behind i))) in
-    record {
-      kept = record {
-        days = ap now_of o.waiting ∙ c.requires.sound.days ∙ sym (ap (λ b. (g.P.Path.route b).slot) o.behind);
-        level = subst Level (sym at) (puts_level k lev p past x c.requires.crosses e c.requires.consent x' same later l now c.taking.ensures.last);
-      };
-      behind = subst g.P.Path.sound (sym o.behind) c.requires.behind;
-      becomes = ap joined at ∙ puts_entered k lev p past x c.requires.crosses e c.requires.consent x' same later l now;
-    }
+    let at : parts h.number h.link.0 (g.S.Scheduler.meaning c.hold.new.scheduler) (waiting_of h.waiting) (crossings_of c.hold.new.crossings) (g.P.Path.route h.behind) ≡ putting_parts k lev p l x' =
+    (λ i. parts h.number h.link.0 (o.sched i) (waiting_of h.waiting) (o.crossings i) (g.P.Path.route h.behind)) in
+    ∣ record { days = s.days; level = subst Level (sym at) (puts_level k lev p past x c.requires.crosses e c.requires.consent x' same later l now c.taking.ensures.last) } ∣₁
 
-pub returns-else-eq : goal.returns-else-eq
-returns-else-eq g c =
+pub returns-then-eq : goal.returns-then-eq
+returns-then-eq g c =
     let h = c.args.self.now in
     let k = parts_of g.S.Scheduler.meaning g.P.Path.route h in
+    let s = sound_opened (now_of h.waiting) k h.sound in
+    let p = c.args.arrived.party in
+    let l = c.args.arrived.label in
+    let e = c.args.eligible.0 in
+    let x = c.args.crossing in
+    let x' = c.taking.result in
+    let lev = s.level in
+    let past = g.met.S.Scheduler.past h.scheduler in
+    let now = eqb-true c.args.eligible.0 c.slot.result.0 (sym c.eq.ensures ∙ c.if-eq.true) ∙ c.slot.ensures ∙ s.days in
+    let same = same_on c.entering-noted.ensures.same c.taking.ensures.same in
+    let later = subst (Later x.trail.latest e) (sym c.taking.ensures.latest) (later_by x.trail.latest c.entering-noted.result.trail.latest c.args.eligible c.entering-noted.ensures.latest) in
+    let o = c.hold.ensures in
+    let at : parts h.number h.link.0 (g.S.Scheduler.meaning c.hold.new.scheduler) (waiting_of h.waiting) (crossings_of c.hold.new.crossings) (g.P.Path.route h.behind) ≡ putting_parts k lev p l x' =
+    (λ i. parts h.number h.link.0 (o.sched i) (waiting_of h.waiting) (o.crossings i) (g.P.Path.route h.behind)) in
+    ap joined at ∙ puts_entered k lev p past x c.requires.crosses e c.requires.consent x' same later l now
+
+pub invariant_of-self-else-eq-clause-sound : goal.invariant_of-self-else-eq-clause-sound
+invariant_of-self-else-eq-clause-sound g c =
+    let h = c.args.self.now in
+    let k = parts_of g.S.Scheduler.meaning g.P.Path.route h in
+    let s = sound_opened (now_of h.waiting) k h.sound in
     let p = c.args.arrived.party in
     let l = c.args.arrived.label in
     let e = c.args.eligible.0 in
     let x = c.args.crossing in
     let x' = c.entering-noted.result in
-    let lev = c.requires.sound.level in
+    let lev = s.level in
     let past = g.met.S.Scheduler.past h.scheduler in
     let same = c.entering-noted.ensures.same in
     let later = later_by x.trail.latest x'.trail.latest c.args.eligible c.entering-noted.ensures.latest in
     let o = c.keep.ensures in
-    let z = c.keep.new.self in
-    let at : parts z.number z.link.0 (g.S.Scheduler.meaning z.scheduler) (waiting_of z.waiting) (crossings_of z.crossings) (g.P.Path.route z.behind) ≡ waiting_parts k lev p e l x' =
-    (λ i. parts (o.number i) (o.link i).0 (g.S.Scheduler.meaning (o.scheduler i)) (o.waits i) (o.crossings i) (g.P.Path.route (o.behind i))) in
-    record {
-      kept = record {
-        days = o.day ∙ c.requires.sound.days ∙ sym (ap (λ b. (g.P.Path.route b).slot) o.behind);
-        level = subst Level (sym at) (waits_level k lev p past x c.requires.crosses e c.requires.consent x' same later l c.entering-noted.ensures.last);
-      };
-      behind = subst g.P.Path.sound (sym o.behind) c.requires.behind;
-      becomes = ap joined at ∙ waits_entered k lev p past x c.requires.crosses e c.requires.consent x' same later l;
-    }
+    let at : parts h.number h.link.0 (g.S.Scheduler.meaning h.scheduler) (waiting_of c.keep.new.waiting) (crossings_of c.keep.new.crossings) (g.P.Path.route h.behind) ≡ waiting_parts k lev p e l x' =
+    (λ i. parts h.number h.link.0 (g.S.Scheduler.meaning h.scheduler) (o.waits i) (o.crossings i) (g.P.Path.route h.behind)) in
+    ∣ record { days = o.day ∙ s.days; level = subst Level (sym at) (waits_level k lev p past x c.requires.crosses e c.requires.consent x' same later l c.entering-noted.ensures.last) } ∣₁
+
+pub returns-else-eq : goal.returns-else-eq
+returns-else-eq g c =
+    let h = c.args.self.now in
+    let k = parts_of g.S.Scheduler.meaning g.P.Path.route h in
+    let s = sound_opened (now_of h.waiting) k h.sound in
+    let p = c.args.arrived.party in
+    let l = c.args.arrived.label in
+    let e = c.args.eligible.0 in
+    let x = c.args.crossing in
+    let x' = c.entering-noted.result in
+    let lev = s.level in
+    let past = g.met.S.Scheduler.past h.scheduler in
+    let same = c.entering-noted.ensures.same in
+    let later = later_by x.trail.latest x'.trail.latest c.args.eligible c.entering-noted.ensures.latest in
+    let o = c.keep.ensures in
+    let at : parts h.number h.link.0 (g.S.Scheduler.meaning h.scheduler) (waiting_of c.keep.new.waiting) (crossings_of c.keep.new.crossings) (g.P.Path.route h.behind) ≡ waiting_parts k lev p e l x' =
+    (λ i. parts h.number h.link.0 (g.S.Scheduler.meaning h.scheduler) (o.waits i) (o.crossings i) (g.P.Path.route h.behind)) in
+    ap joined at ∙ waits_entered k lev p past x c.requires.crosses e c.requires.consent x' same later l

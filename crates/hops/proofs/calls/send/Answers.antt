@@ -1,11 +1,11 @@
-use Rattle.std.proofs.Common.{◌≡◌, ◌+◌, ◌≤◌, get_or, None, sym, refl, ap, ◌∙◌, subst, arith}
+use Rattle.std.proofs.Common.{◌≡◌, ◌+◌, ◌≤◌, get_or, None, sym, ap, ◌∙◌, subst, arith}
 use Rattle.paths.specs.Route.{entered}
 use Rattle.paths.specs.Verdicts.{arrival_rule}
 use Rattle.scheduler.specs.Meaning.{due}
 use Rattle.hops.specs.declared.crossing.Crossing.{Crossing}
 use Rattle.hops.proofs.Seen.{none_some, some_same}
 use Rattle.hops.proofs.TickWhole.{handed_some}
-use Rattle.hops.proofs.hop.Hop.send.Goals as goal
+use Rattle.hops.proofs.calls.send.Goals as goal
 
 pub unreachable-requires : goal.unreachable-requires
 unreachable-requires g c =
@@ -27,19 +27,18 @@ header_of-header-requires g c =
 pub arrival_of-requires : goal.arrival_of-requires
 arrival_of-requires g c =
     let r = c.requires.ready c.in_ok-cell.cell c.in_ok-cell.was in
-    record { slots = r.slots; link = c.args.self.now.short }
+    record { slots = r.slots; link = c.requires.link }
 
 pub forward-requires : goal.forward-requires
 forward-requires g c =
     let r = c.requires.ready c.in_ok-cell.cell c.in_ok-cell.was in
     let x : r.crossing ≡ c.in-Some.crossing = some_same r.crosses (sym c.of.ensures.value ∙ c.in-Some.is) in
     let h = c.header_of-header.ensures in
-    let b = g.P.Path.route c.args.self.now.behind in
+    let b = g.P.Path.route c.args.behind.now in
     let d = ap (λ (x : Crossing). x.bound.0) x in
     let p = c.in_ok-cell.cell.party in
-    let at : c.in_ok-cell.cell.eligible.0 + r.crossing.bound.0 + c.args.self.now.link.0 ≡ c.arrival_of.result.0 + c.header_of-header.result.ahead.0 = omega (arith, h.ahead, d, c.arrival_of.ensures, c.in-Some.crossing.bounded) in
+    let at : c.in_ok-cell.cell.eligible.0 + r.crossing.bound.0 + c.args.link.0 ≡ c.arrival_of.result.0 + c.header_of-header.result.ahead.0 = omega (arith, h.ahead, d, c.arrival_of.ensures, c.in-Some.crossing.bounded) in
     record {
-      sound = c.requires.sound;
       party = subst (λ p. p ≤ 15) (sym h.party) r.party;
       ahead = omega (arith, h.ahead, r.eligible, c.in-Some.crossing.prompt);
       consent = sym (λ i. arrival_rule b (b.contracts (sym h.party i)) (sym h.party i) (at i)) ∙ r.consent;
@@ -49,18 +48,10 @@ pub returns : goal.returns
 returns g c =
     let r = c.requires.ready c.in_ok-cell.cell c.in_ok-cell.was in
     let h = c.header_of-header.ensures in
-    let b = g.P.Path.route c.args.self.now.behind in
+    let b = g.P.Path.route c.args.behind.now in
     let x = c.in-Some.crossing in
     let cell = c.in_ok-cell.cell in
-    let at : c.arrival_of.result.0 + c.header_of-header.result.ahead.0 ≡ cell.eligible.0 + x.bound.0 + c.args.self.now.link.0 = omega (arith, h.ahead, c.arrival_of.ensures, x.bounded) in
-    record {
-      number = refl;
-      link = refl;
-      scheduler = refl;
-      waiting = refl;
-      crossings = refl;
-      kept = c.forward.ensures.kept;
-      handed = handed_some (λ p. get_or c.args.self.now.crossings.parties p None) c.args.self.now.link.0 c.args.slot.0 c.args.served cell x c.header_of-header.result b (g.P.Path.route c.forward.new.behind)
-          c.in_ok-cell.was (sym c.of.ensures.value ∙ c.in-Some.is) (record { party = h.party; ahead = h.ahead; label = h.label })
-          (c.forward.ensures.becomes ∙ (λ i. entered b (h.party i) (at i) (h.label i)));
-    }
+    let at : c.arrival_of.result.0 + c.header_of-header.result.ahead.0 ≡ cell.eligible.0 + x.bound.0 + c.args.link.0 = omega (arith, h.ahead, c.arrival_of.ensures, x.bounded) in
+    handed_some (λ p. get_or c.args.crossings.now.parties p None) c.args.link.0 c.args.slot.0 c.args.served cell x c.header_of-header.result b (g.P.Path.route c.forward.new.behind)
+    c.in_ok-cell.was (sym c.of.ensures.value ∙ c.in-Some.is) (record { party = h.party; ahead = h.ahead; label = h.label })
+    (c.forward.ensures ∙ (λ i. entered b (h.party i) (at i) (h.label i)))
