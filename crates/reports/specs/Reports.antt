@@ -5,7 +5,7 @@ use Rattle.cells.specs.Faults.{field, fault_text}
 use Rattle.cells.specs.declared.faults.Fault.{Fault}
 use Rattle.cells.specs.declared.times.Span.{Span}
 use Rattle.texts.specs.Lines.{and_then}
-use Rattle.texts.specs.PlanLines.{kind_name}
+use Rattle.cells.specs.Makes.{make_name}
 use Rattle.texts.specs.Plans.{Layout, plan_of}
 use Rattle.texts.specs.Traces.{trace_of}
 use Rattle.texts.specs.declared.forms.PlanHop.{PlanHop}
@@ -22,7 +22,7 @@ crossing_sum hs ds = sum_by (λ p. hop_share p.0 p.1) (zip hs ds)
 
 -- `HOP index kind link`
 abbrev pub hop_text : ℕ → PlanHop → List ℕ
-hop_text i h = codes "HOP" ++ (field i ++ (9 ∷ (kind_name h.kind ++ (field h.link.0 ++ 10 ∷ []))))
+hop_text i h = codes "HOP" ++ (field i ++ (9 ∷ (make_name h.kind ++ (field h.link.0 ++ 10 ∷ []))))
 
 -- `PARTY number sum`
 abbrev pub party_text : List PlanHop → PlanParty → List ℕ

@@ -8,10 +8,11 @@ use Rattle.std.specs.Str.{bytes_eq}
 use Rattle.cells.specs.Faults.{field}
 use Rattle.cells.specs.declared.faults.Cause.TheVariants.{LineForm, NumberOutOfRange}
 use Rattle.texts.specs.Fields.{pieces, numbers_of}
-use Rattle.texts.specs.PlanLines.{kind_name, span, kind_of, hop_numbers, hop_line, hop_fields, eight_of, terms, party_numbers, party_fields, plan_line}
+use Rattle.cells.specs.Makes.{make_name}
+use Rattle.texts.specs.PlanLines.{span, kind_of, hop_numbers, hop_line, hop_fields, eight_of, terms, party_numbers, party_fields, plan_line}
 use Rattle.texts.specs.Writing.{tabbed, hop_written, party_written}
-use Rattle.texts.specs.declared.forms.Kind.{Kind}
-use Rattle.texts.specs.declared.forms.Kind.TheVariants.{Edf, Sp, Table}
+use Rattle.cells.specs.declared.makes.Make.{Make}
+use Rattle.cells.specs.declared.makes.Make.TheVariants.{Edf, Sp, Table}
 use Rattle.texts.specs.declared.forms.PlanEntry.{PlanEntry}
 use Rattle.texts.specs.declared.forms.PlanEntry.TheVariants.{Hop, Party}
 use Rattle.texts.proofs.Rejoins.{led, parted, numbers_written}
@@ -25,31 +26,31 @@ abbrev pub entry_written : ℕ → PlanEntry → List ℕ
 entry_written k (Hop h) = hop_written h
 entry_written k (Party p) = party_written k p
 
-kind_cases : (w : List ℕ) (a b c : Bool) (k : Kind) → bytes_eq w (codes "EDF") ≡ a → bytes_eq w (codes "SP") ≡ b → bytes_eq w (codes "TABLE") ≡ c → cond a (Some Edf) (cond b (Some Sp) (cond c (Some Table) None)) ≡ Some k → w ≡ kind_name k
-kind_cases w true b c k x y z e = let same : Edf ≡ k = cc in (bytes_eq-Decides w (codes "EDF")).0 x ∙ ap kind_name same
-kind_cases w false true c k x y z e = let same : Sp ≡ k = cc in (bytes_eq-Decides w (codes "SP")).0 y ∙ ap kind_name same
-kind_cases w false false true k x y z e = let same : Table ≡ k = cc in (bytes_eq-Decides w (codes "TABLE")).0 z ∙ ap kind_name same
+kind_cases : (w : List ℕ) (a b c : Bool) (k : Make) → bytes_eq w (codes "EDF") ≡ a → bytes_eq w (codes "SP") ≡ b → bytes_eq w (codes "TABLE") ≡ c → cond a (Some Edf) (cond b (Some Sp) (cond c (Some Table) None)) ≡ Some k → w ≡ make_name k
+kind_cases w true b c k x y z e = let same : Edf ≡ k = cc in (bytes_eq-Decides w (codes "EDF")).0 x ∙ ap make_name same
+kind_cases w false true c k x y z e = let same : Sp ≡ k = cc in (bytes_eq-Decides w (codes "SP")).0 y ∙ ap make_name same
+kind_cases w false false true k x y z e = let same : Table ≡ k = cc in (bytes_eq-Decides w (codes "TABLE")).0 z ∙ ap make_name same
 kind_cases w false false false k x y z e = let n : ◌≡◌ {A = ℕ} 0 1 = cc in absurd (omega arith)
 
-kind_named : (w : List ℕ) (k : Kind) → kind_of w ≡ Some k → w ≡ kind_name k
+kind_named : (w : List ℕ) (k : Make) → kind_of w ≡ Some k → w ≡ make_name k
 kind_named w k e = kind_cases w (bytes_eq w (codes "EDF")) (bytes_eq w (codes "SP")) (bytes_eq w (codes "TABLE")) k refl refl refl e
 
-hop_made : (g : ℕ) (k : Kind) (e : PlanEntry) (t : Bool) → cond t (Ok (Hop (record { kind = k; link = span g }))) (Err NumberOutOfRange) ≡ Ok e → Hop (record { kind = k; link = span g }) ≡ e
+hop_made : (g : ℕ) (k : Make) (e : PlanEntry) (t : Bool) → cond t (Ok (Hop (record { kind = k; link = span g }))) (Err NumberOutOfRange) ≡ Ok e → Hop (record { kind = k; link = span g }) ≡ e
 hop_made g k e true h = cc
 hop_made g k e false h = not_both h
 
-hop_cases : (hops : ℕ) (k : Kind) (gs : List ℕ) (e : PlanEntry) → hop_numbers k gs ≡ Ok e → codes "HOP" ++ (9 ∷ (kind_name k ++ (tabbed gs ++ 10 ∷ []))) ≡ entry_written hops e
+hop_cases : (hops : ℕ) (k : Make) (gs : List ℕ) (e : PlanEntry) → hop_numbers k gs ≡ Ok e → codes "HOP" ++ (9 ∷ (make_name k ++ (tabbed gs ++ 10 ∷ []))) ≡ entry_written hops e
 hop_cases hops k [] e h = not_both h
 hop_cases hops k (g ∷ []) e h =
-    ap (λ l. codes "HOP" ++ (9 ∷ (kind_name k ++ (l ++ 10 ∷ [])))) (append-nil (field g)) ∙ ap (entry_written hops) (hop_made g k e (leb g 63) h)
+    ap (λ l. codes "HOP" ++ (9 ∷ (make_name k ++ (l ++ 10 ∷ [])))) (append-nil (field g)) ∙ ap (entry_written hops) (hop_made g k e (leb g 63) h)
 hop_cases hops k (g ∷ g' ∷ gs) e h = not_both h
 
-hop_line_lem : (hops : ℕ) (w : List ℕ) (fs : List (List ℕ)) (k : Option Kind) (q : Option (List ℕ)) (e : PlanEntry) → kind_of w ≡ k → numbers_of fs ≡ q → hop_line k q ≡ Ok e → codes "HOP" ++ (9 ∷ (w ++ (led 9 fs ++ 10 ∷ []))) ≡ entry_written hops e
+hop_line_lem : (hops : ℕ) (w : List ℕ) (fs : List (List ℕ)) (k : Option Make) (q : Option (List ℕ)) (e : PlanEntry) → kind_of w ≡ k → numbers_of fs ≡ q → hop_line k q ≡ Ok e → codes "HOP" ++ (9 ∷ (w ++ (led 9 fs ++ 10 ∷ []))) ≡ entry_written hops e
 hop_line_lem hops w fs None q e x y h = not_both h
 hop_line_lem hops w fs (Some k) None e x y h = not_both h
 hop_line_lem hops w fs (Some k) (Some gs) e x y h =
     ap (λ v. codes "HOP" ++ (9 ∷ (v ++ (led 9 fs ++ 10 ∷ [])))) (kind_named w k x)
-    ∙ ap (λ l. codes "HOP" ++ (9 ∷ (kind_name k ++ (l ++ 10 ∷ [])))) (numbers_written fs gs y)
+    ∙ ap (λ l. codes "HOP" ++ (9 ∷ (make_name k ++ (l ++ 10 ∷ [])))) (numbers_written fs gs y)
     ∙ hop_cases hops k gs e h
 
 hop_fields_lem : (hops : ℕ) (fs : List (List ℕ)) (e : PlanEntry) → hop_fields fs ≡ Ok e → codes "HOP" ++ (led 9 fs ++ 10 ∷ []) ≡ entry_written hops e

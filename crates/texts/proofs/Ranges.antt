@@ -7,7 +7,7 @@ use Rattle.texts.specs.Fields.{numbers_of}
 use Rattle.texts.specs.Parties.{ranged}
 use Rattle.texts.specs.PlanLines.{span, kind_of, hop_numbers, hop_line, hop_fields, terms, eight_of, party_numbers, party_fields, plan_line}
 use Rattle.texts.specs.Traces.{line_ranged, trace_numbers, trace_fields}
-use Rattle.texts.specs.declared.forms.Kind.{Kind}
+use Rattle.cells.specs.declared.makes.Make.{Make}
 use Rattle.texts.specs.declared.forms.PlanEntry.{PlanEntry}
 use Rattle.texts.specs.declared.forms.PlanEntry.TheVariants.{Party}
 use Rattle.texts.specs.declared.forms.TraceLine.{TraceLine}
@@ -17,12 +17,12 @@ tested : {X : Type 0} (r : X → Bool) (t : Bool) (x y : X) → (t ≡ true → 
 tested r true x y h e = let same : x ≡ y = cc in ap r (sym same) ∙ h refl
 tested r false x y h e = not_both e
 
-hop_ranged : (k : Kind) (gs : List ℕ) (e : PlanEntry) → hop_numbers k gs ≡ Ok e → ranged e ≡ true
+hop_ranged : (k : Make) (gs : List ℕ) (e : PlanEntry) → hop_numbers k gs ≡ Ok e → ranged e ≡ true
 hop_ranged k [] e h = not_both h
 hop_ranged k (g ∷ []) e h = tested ranged (leb g 63) _ e (λ t. t) h
 hop_ranged k (g ∷ g' ∷ gs) e h = not_both h
 
-hop_line_ranged : (k : Option Kind) (q : Option (List ℕ)) (e : PlanEntry) → hop_line k q ≡ Ok e → ranged e ≡ true
+hop_line_ranged : (k : Option Make) (q : Option (List ℕ)) (e : PlanEntry) → hop_line k q ≡ Ok e → ranged e ≡ true
 hop_line_ranged None q e h = not_both h
 hop_line_ranged (Some k) None e h = not_both h
 hop_line_ranged (Some k) (Some gs) e h = hop_ranged k gs e h

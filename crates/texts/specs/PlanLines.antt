@@ -6,8 +6,8 @@ use Rattle.cells.specs.declared.faults.Cause.{Cause}
 use Rattle.cells.specs.declared.faults.Cause.TheVariants.{LineForm, NumberOutOfRange}
 use Rattle.cells.specs.declared.times.Span.{Span}
 use Rattle.texts.specs.Fields.{numbers_of}
-use Rattle.texts.specs.declared.forms.Kind.{Kind}
-use Rattle.texts.specs.declared.forms.Kind.TheVariants.{Edf, Sp, Table}
+use Rattle.cells.specs.declared.makes.Make.{Make}
+use Rattle.cells.specs.declared.makes.Make.TheVariants.{Edf, Sp, Table}
 use Rattle.texts.specs.declared.forms.PlanEntry.{PlanEntry}
 use Rattle.texts.specs.declared.forms.PlanEntry.TheVariants.{Hop, Party}
 
@@ -15,23 +15,17 @@ abbrev pub span : ℕ → Span
 span n = record { 0 = n }
 
 -- the makes by name
-abbrev pub kind_of : List ℕ → Option Kind
+abbrev pub kind_of : List ℕ → Option Make
 kind_of w =
     cond (bytes_eq w (codes "EDF")) (Some Edf) (cond (bytes_eq w (codes "SP")) (Some Sp) (cond (bytes_eq w (codes "TABLE")) (Some Table) None))
 
--- how a make is named
-abbrev pub kind_name : Kind → List ℕ
-kind_name Edf = codes "EDF"
-kind_name Sp = codes "SP"
-kind_name Table = codes "TABLE"
-
 -- `HOP kind link`, behind its first word: the link is at most 63
-abbrev pub hop_numbers : Kind → List ℕ → Result PlanEntry Cause
+abbrev pub hop_numbers : Make → List ℕ → Result PlanEntry Cause
 hop_numbers k [] = Err LineForm
 hop_numbers k (g ∷ []) = cond (nat_le g 63) (Ok (Hop (record { kind = k; link = span g }))) (Err NumberOutOfRange)
 hop_numbers k (g ∷ h ∷ gs) = Err LineForm
 
-abbrev pub hop_line : Option Kind → Option (List ℕ) → Result PlanEntry Cause
+abbrev pub hop_line : Option Make → Option (List ℕ) → Result PlanEntry Cause
 hop_line None gs = Err LineForm
 hop_line (Some k) None = Err LineForm
 hop_line (Some k) (Some gs) = hop_numbers k gs

@@ -2,7 +2,7 @@
 use Rattle.std.specs.Prelude.{ℕ, List, [], ◌∷◌, ◌++◌, map, length, take, codes, decimal}
 use Rattle.std.specs.List.{flat_map}
 use Rattle.cells.specs.Faults.{field}
-use Rattle.texts.specs.PlanLines.{kind_name}
+use Rattle.cells.specs.Makes.{make_name}
 use Rattle.texts.specs.Plans.{Layout}
 use Rattle.texts.specs.declared.forms.PlanHop.{PlanHop}
 use Rattle.texts.specs.declared.forms.PlanParty.{PlanParty}
@@ -14,7 +14,7 @@ tabbed [] = []
 tabbed (n ∷ ns) = field n ++ tabbed ns
 
 abbrev pub hop_written : PlanHop → List ℕ
-hop_written h = codes "HOP" ++ (9 ∷ (kind_name h.kind ++ (field h.link.0 ++ 10 ∷ [])))
+hop_written h = codes "HOP" ++ (9 ∷ (make_name h.kind ++ (field h.link.0 ++ 10 ∷ [])))
 
 -- with the bounds of so many hops
 abbrev pub party_written : ℕ → PlanParty → List ℕ

@@ -1,6 +1,7 @@
 //! What the lines of a plan and a trace say.
 
 use cells::limits;
+use cells::makes::Make;
 use cells::times::{Slot, Span};
 
 /// The greatest party that a line may name.
@@ -14,18 +15,10 @@ pub(crate) const SLOT_MAX: u64 = limits::LAST as u64;
 /// The greatest label that a trace may give.
 pub(crate) const LABEL_MAX: u64 = u32::MAX as u64;
 
-/// The make of scheduler that a plan puts at a hop.
-#[derive(Clone, Copy)]
-pub enum Kind {
-    Edf,
-    Sp,
-    Table,
-}
-
 /// A line `HOP kind link`.
 #[derive(Clone, Copy)]
 pub struct PlanHop {
-    pub kind: Kind,
+    pub kind: Make,
     pub link: Span,
 }
 

@@ -4,7 +4,6 @@
 
 mod fields;
 pub mod forms;
-pub mod kinds;
 mod plan_lines;
 pub mod plans;
 pub mod read_plan;

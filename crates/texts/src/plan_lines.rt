@@ -7,21 +7,22 @@ ghost use Rattle.texts.specs.Plans.{draft_of};
 ghost use Rattle.texts.specs.PlanLines.{kind_of, hop_fields, terms, eight_of, party_numbers, party_fields, plan_line};
 
 use crate::fields::{cut, number, numbers};
-use crate::forms::{Kind, LINK_MAX, PARTY_MAX, PlanEntry, PlanHop, PlanParty, TERM_MAX};
+use crate::forms::{LINK_MAX, PARTY_MAX, PlanEntry, PlanHop, PlanParty, TERM_MAX};
 use crate::plans::Draft;
 use crate::refusals::Refusal;
 use cells::faults::Cause;
+use cells::makes::Make;
 use cells::times::Span;
 use std::alloc::Global;
 
 /// The make that a word names.
-fn kind_of(word: &[u8]) -> Option<Kind>
+fn kind_of(word: &[u8]) -> Option<Make>
     ensures { result ≡ kind_of word.now }
 {
     match word {
-        b"EDF" => Some(Kind::Edf),
-        b"SP" => Some(Kind::Sp),
-        b"TABLE" => Some(Kind::Table),
+        b"EDF" => Some(Make::Edf),
+        b"SP" => Some(Make::Sp),
+        b"TABLE" => Some(Make::Table),
         _ => None,
     }
 }
