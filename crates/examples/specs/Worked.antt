@@ -1,5 +1,5 @@
 -- The worked examples. Contracts are written (spacing, bound).
-use Rattle.std.specs.Prelude.{◌≡◌, ℕ, List, [], ◌∷◌, set, replicate, Some, None, Ok, Option}
+use Rattle.std.specs.Prelude.{◌≡◌, ℕ, List, [], ◌∷◌, replicate, Some, None, Ok, Option}
 use Rattle.cells.specs.Faults.{cause_number}
 use Rattle.cells.specs.declared.faults.Cause.{Cause}
 use Rattle.header.specs.Headers.{bytes_of, header_of}
