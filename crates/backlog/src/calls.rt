@@ -33,6 +33,7 @@ impl Backlog {
         }
     }
 
+    // A test, and no error: there is one reason, which carries nothing, and the makes prove that there is room.
     /// Holds a cell, and answers whether there was room.
     pub fn push(&mut self, held: Held) -> bool
         ensures answer { result ≡ nat_lt (length (cells_of self.old)) 128 }

@@ -4,6 +4,8 @@ ghost use Rattle.std.specs.Prelude.{◌≡◌, ◌≤◌, length};
 
 use crate::held::Held;
 
+// An array and a count: the rules fix the memory, and the kit's `ArrayVec` is not `Copy`, which the
+// makes that hold a backlog are.
 /// Held cells, in no order of their own: those at the first `count` places.
 #[derive(Clone, Copy)]
 pub struct Backlog {

@@ -43,6 +43,7 @@ impl Calendar {
         }
     }
 
+    // A test, and no error: there is one reason, which carries nothing, and paths prove that there is room.
     /// Has a cell of the party wait for the slot, in place of one that waited for it, and answers
     /// whether it can: the party is at most 15, and the slot is the present one or less than 192
     /// ahead.

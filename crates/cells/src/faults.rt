@@ -97,6 +97,8 @@ impl Layer {
     }
 }
 
+// Numbers, and not options: the rules write none so in a fault line, and a hop fills its number in
+// where 255 stands.
 /// In a fault: no party.
 pub const NO_PARTY: u8 = 255;
 /// In a fault: no hop.

@@ -14,6 +14,7 @@ use table::state::Table;
 /// A scheduler of any make.
 pub type AnyMake = Switch<Edf, Sp, Table>;
 
+// A number, and not a `Make`: the rules number the make at its making, and take every number.
 /// A fresh scheduler of the make with this number: 0 is EDF, 1 is SP, every other number is TABLE.
 pub fn make(number: u8) -> AnyMake
     ensures make { result.make ≡ make_of number }

@@ -7,6 +7,7 @@ ghost use Rattle.scheduler.specs.Tables.{spacing_or, bound_or, last_or};
 use crate::terms::Contract;
 use cells::times::Slot;
 
+// An array, and not `ByParty`: the rules have a party's element of the contract table lent in place.
 /// The slot of a scheduler and its contract table, by party.
 #[derive(Clone, Copy)]
 pub struct Register {

@@ -60,7 +60,8 @@ impl Demand for Share {
     }
 }
 
-// The span of a level: two to the level slots.
+// The span of a level: two to the level slots. `level < 8` is no type of its own here: the closure in
+// `exceeds_levels` would have to make its values, and the proof there did not close.
 fn span_of(level: u32) -> Span
     requires { level < 8 }
     ensures { result.0 ≡ 2 ^ level }

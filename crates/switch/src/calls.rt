@@ -17,6 +17,7 @@ use scheduler::Scheduler;
 use scheduler::terms::{Cell, Contract};
 
 impl<E: Scheduler, S: Scheduler, T: Scheduler> Switch<E, S, T> {
+    // A number, and not a `Make`: the rules number the make at its making, and take every number.
     /// A switch over one scheduler of each make, which behaves as the one of this number: 0 is
     /// EDF, 1 is SP, every other number is TABLE.
     pub fn new(number: u8, edf: E, sp: S, table: T) -> Switch<E, S, T>
