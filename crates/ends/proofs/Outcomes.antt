@@ -1,12 +1,12 @@
 -- What is answered under a verdict, and an end by its parts.
-use Rattle.std.proofs.Common.{◌≡◌, ℕ, zero, suc, ◌+◌, ◌<◌, ◌≤◌, min, Bool, true, false, cond, eqb, ltb, List, [], get_or, set, replicate, is_some, Some, None, Ok, Err, Option, sym, refl, ap, ◌∙◌, subst, arith}
+use Rattle.std.proofs.Common.{◌≡◌, ℕ, zero, suc, ◌+◌, ◌<◌, ◌≤◌, Bool, true, false, cond, eqb, ltb, List, [], get_or, set, replicate, is_some, Some, None, Ok, Err, Option, sym, refl, ap, ◌∙◌, subst, arith}
 use mathlib.Core.Path.{fun_ext}
-use Rattle.std.proofs.lemmas.Bool.{cond-true, cond-false, ltb-false, le-ltb}
+use Rattle.std.proofs.lemmas.Bool.{cond-true, cond-false, le-ltb}
 use Rattle.std.proofs.Math.Logic.{∥∥₁_map}
+use Rattle.std.specs.Option.{ok_or}
 use Rattle.calendar.specs.declared.grid.Calendar.{Calendar}
 use Rattle.calendar.specs.Days.{now_of, waiting_of}
 use Rattle.calendar.specs.Rows.{room}
-use Rattle.calendar.proofs.Waits.{slots_range}
 use Rattle.calendar.proofs.Windows.{room_from}
 use Rattle.cells.specs.declared.faults.Cause.TheVariants.{PartyOutOfRange, PartyHasContract, SpacingOutOfRange, CellsPresent}
 use Rattle.cells.specs.declared.faults.Fault.{Fault}
@@ -17,15 +17,16 @@ use Rattle.scheduler.specs.Meaning.{last_slot, updated, outside}
 use Rattle.scheduler.proofs.Updates.{table-set}
 use Rattle.paths.specs.declared.trail.Trail.{Trail}
 use Rattle.paths.specs.Route.{Route, Terms, fresh, entered, ticked}
-use Rattle.paths.specs.Verdicts.{fault, answered, refused_if, refused_at, holds_of, holds_any, bad_bound, own_number, bad_hop, common_rule, admitted, grant_rule, grant_verdict, granted, withdraw_rule, withdrawn, arrival_rule}
-use Rattle.paths.proofs.Kept.{consents, consents_at, no_first, inside}
+use Rattle.paths.specs.Trails.{arrival_by}
+use Rattle.paths.specs.Verdicts.{fault, answered, refused_if, refused_at, holds_of, holds_any, bad_hop, common_rule, admitted, grant_rule, grant_verdict, granted, withdraw_rule, withdrawn, out_of_window, arrival_rule}
+use Rattle.paths.proofs.Kept.{consents, in_window, party_good}
 use Rattle.paths.proofs.Opened.{lawful_opened, newest_opened}
 use Rattle.paths.proofs.Present.{none_some}
 use Rattle.ends.specs.declared.end.End.{End}
 use Rattle.ends.specs.declared.trails.Trails.{Trails}
-use Rattle.ends.specs.Ends.{number_in, trail_of, terms_of, terms_in, still_any, arrival_at, Noted, route_of, Tracked}
+use Rattle.ends.specs.Ends.{number_in, trail_of, terms_of, terms_in, still_any, Noted, route_of, Tracked}
 use Rattle.ends.specs.Meant.{end_route}
-use Rattle.ends.proofs.Steps.{Later, tracked_fresh, any_is, arrival_is, arrival_near, route_granted, tracked_granted, route_withdrawn, tracked_withdrawn, route_entered, tracked_entered, route_ticked, tracked_ticked}
+use Rattle.ends.proofs.Steps.{Later, tracked_fresh, any_is, arrival_at, arrival_is, route_granted, tracked_granted, route_withdrawn, tracked_withdrawn, route_entered, tracked_entered, route_ticked, tracked_ticked}
 
 -- consent
 pub answered_ok : (v : Option Fault) → Ok tt ≡ answered v → v ≡ None
@@ -36,6 +37,15 @@ answered_ok (Some f) e = absurd (let z : ◌≡◌ {A = ℕ} 0 1 = cc in omega a
 pub answered_err : (v : Option Fault) (f : Fault) → Err f ≡ answered v → v ≡ Some f
 answered_err None f e = absurd (let z : ◌≡◌ {A = ℕ} 0 1 = cc in omega arith)
 answered_err (Some g) f e = let s : g ≡ f = cc in ap Some s
+
+-- who is not refused for want of a contract has a trail, and who is refused has none
+pub trail_ok : (o : Option Trail) (f : Fault) (y : Trail) → Ok y ≡ ok_or o f → o ≡ Some y
+trail_ok None f y e = absurd (let z : ◌≡◌ {A = ℕ} 0 1 = cc in omega arith)
+trail_ok (Some x) f y e = let s : y ≡ x = cc in ap Some (sym s)
+
+pub trail_err : (o : Option Trail) (f g : Fault) → Err g ≡ ok_or o f → (o ≡ None) × (g ≡ f)
+trail_err None f g e = (refl, cc)
+trail_err (Some x) f g e = absurd (let z : ◌≡◌ {A = ℕ} 0 1 = cc in omega arith)
 
 -- the first verdict where it refuses, else the second
 abbrev pub or_else : Option Fault → Option Fault → Option Fault
@@ -82,29 +92,6 @@ rule_by x p s lead bs known bad busy a b c =
 pub verdict_by : (x : End) (p s lead : ℕ) (bs : List Span) → grant_verdict (end_route x) [] p s bs lead ≡ or_else (grant_rule (end_route x) p s bs lead None) (admitted x.first [] [] (end_route x).contracts p s bs lead)
 verdict_by x p s lead bs = common_is (is_some ((end_route x).contracts p)) (bad_hop x.first [] bs lead) (holds_any (end_route x)) p s (admitted x.first [] [] (end_route x).contracts p s bs lead)
 
--- where they refuse nothing, all is in range
-pub record InRange (p s lead : ℕ) : Type 0 where
-  pub low : p ≤ 15
-  pub spacing_least : 1 ≤ s
-  pub spacing_most : s ≤ 1024
-  pub lead_least : 1 ≤ lead
-  pub lead_most : lead ≤ 191
-
-pub in_range : (known : Bool) (k : ℕ) (bs : List Span) (busy : Bool) (p s lead : ℕ) → common_rule known (bad_hop k [] bs lead) busy p s None ≡ None → InRange p s lead
-in_range known k bs busy p s lead e =
-    let a = consents (ltb 15 p) _ _ e in
-    let b = consents known _ _ a.1 in
-    let c = consents (outside 1 1024 s) _ _ b.1 in
-    let d = consents_at (bad_hop k [] bs lead) p _ c.1 in
-    let g = no_first (outside 1 191 lead) (own_number k []) (bad_bound k [] bs) d.0 in
-    record {
-      low = ltb-false 15 p a.0;
-      spacing_least = (inside 1 1024 s c.0).0;
-      spacing_most = (inside 1 1024 s c.0).1;
-      lead_least = (inside 1 191 lead g.0).0;
-      lead_most = (inside 1 191 lead g.0).1;
-    }
-
 -- a contract that is taken back was there, and no cell of its party is
 pub withdrawal : (o : Option Terms) (b : Bool) (p : ℕ) → withdraw_rule o b p ≡ None → b ≡ false
 withdrawal None b p e = absurd (none_some e refl)
@@ -144,8 +131,7 @@ end_granted x p s lead bs y u written spaces leads latest last rule =
     let n = now_of x.waiting in
     let ts = trail_of x.trails in
     let w = waiting_of x.waiting in
-    let i = in_range (is_some ((end_route x).contracts p)) x.first bs (holds_any (end_route x)) p s lead rule in
-    let trails = trails_set x.trails u p (Some y) (omega (arith, i.low)) written in
+    let trails = trails_set x.trails u p (Some y) (omega (arith, party_good (end_route x) p s bs lead rule)) written in
     becomes (ap (λ us. route_of n x.first us w) trails ∙ route_granted n x.first ts w (tracked_of x) p s lead bs y spaces leads latest last) trails
     (tracked_granted n x.first ts w (tracked_of x) p s lead bs y spaces leads latest last rule)
 
@@ -164,24 +150,22 @@ pub record Arrived (x : End) (p e l : ℕ) (q : Calendar) (u : Trails) : Type 0 
   pub rule : arrival_rule (end_route x) ((end_route x).contracts p) p e ≡ None
   pub after : Becomes (route_of (now_of q) x.first (trail_of u) (waiting_of q)) (trail_of u) (entered (end_route x) p e l)
 
-pub end_arrived : (x : End) (p e l : ℕ) (y z : Trail) (d : Slot) (q : Calendar) (u : Trails) → p < 16 → d.0 ≡ min e 4294967295
-    → trail_of x.trails p ≡ Some y → arrival_at (trail_of x.trails p) (waiting_of x.waiting p) (now_of x.waiting) p d.0 ≡ None
+pub end_arrived : (x : End) (p e l : ℕ) (y z : Trail) (d : Slot) (q : Calendar) (u : Trails) → p < 16 → d.0 ≡ e
+    → trail_of x.trails p ≡ Some y → arrival_by y (waiting_of x.waiting p) (now_of x.waiting) p e ≡ None
     → z.spacing ≡ y.spacing → z.lead ≡ y.lead → z.last ≡ y.last → Later y.latest d z.latest → now_of q ≡ now_of x.waiting
     → waiting_of q ≡ cond (room (now_of x.waiting) p d.0) (updated (waiting_of x.waiting) p (updated (waiting_of x.waiting p) d.0 (Some l))) (waiting_of x.waiting)
     → u.parties ≡ set x.trails.parties p (Some z) → Arrived x p e l q u
-end_arrived x p e l y z d q u low sum has clear spacing lead last latest slot cells written =
+end_arrived x p e l y z d q u low at has clear spacing lead last latest slot cells written =
     let r = end_route x in
     let n = now_of x.waiting in
     let ts = trail_of x.trails in
     let w = waiting_of x.waiting in
     let t = tracked_of x in
-    let near = arrival_near y (w p) n p e d.0 (slots_range x.waiting) sum (ap (λ o. arrival_at o (w p) n p d.0) (sym has) ∙ clear) in
-    let at = near.0 in
-    let from = near.1 in
-    let to = near.2 in
-    let rule : arrival_rule r (r.contracts p) p e ≡ None = sym (arrival_is n x.first ts w t p e) ∙ ap (arrival_at (ts p) (w p) n p) (sym at) ∙ clear in
+    let soon = y.soon in
+    let window = in_window n y.lead.0 e (consents (out_of_window n y.lead.0 e) _ _ clear).0 in
+    let rule : arrival_rule r (r.contracts p) p e ≡ None = sym (arrival_is n x.first ts w t p e) ∙ ap (λ o. arrival_at o (w p) n p e) has ∙ clear in
     let same : terms_of z ≡ terms_of y = λ i. record { spacing = (spacing i).0; bounds = (terms_of y).bounds; lead = (lead i).0; last = number_in (last i) } in
-    let has_room : room n p d.0 ≡ true = room_from n p d.0 (omega arith) from (omega arith) in
+    let has_room : room n p d.0 ≡ true = room_from n p d.0 (omega arith) (omega (arith, at, window.0)) (omega (arith, at, window.1)) in
     let waits : waiting_of q ≡ updated w p (updated (w p) e (Some l)) = cells ∙ cond-true (room n p d.0) _ _ has_room ∙ ap (λ (k : ℕ). updated w p (updated (w p) k (Some l))) at in
     let trails = trails_set x.trails u p (Some z) low written in
     record {

@@ -1,22 +1,31 @@
 -- What each call does to an end, by its slot, its trails and what waits.
-use Rattle.std.proofs.Common.{◌≡◌, ℕ, ◌+◌, ◌<◌, ◌≤◌, min, Bool, true, false, cond, eqb, ltb, ◌⊎◌, List, [], is_some, Some, None, Option, sym, refl, ap, ◌∙◌, subst, inl, inr, add-zero, arith}
+use Rattle.std.proofs.Common.{◌≡◌, ℕ, ◌+◌, ◌*◌, ◌≤◌, Bool, true, false, cond, eqb, ltb, ◌⊎◌, List, [], length, get_or, is_some, Some, None, Option, sym, refl, ap, ◌∙◌, subst, inl, inr, add-zero, arith}
 use mathlib.Core.Path.{fun_ext}
-use Rattle.std.proofs.lemmas.Bool.{both_ways, cases_eq, cases_lt, cond_both, cond-true, cond-false, eqb-false, eq-eqb, ne_eqb, ltb-true, ltb-false, le-ltb}
+use Rattle.std.proofs.lemmas.Bool.{both_ways, cases_eq, cond_both, cond-true, cond-false, eqb-false, eq-eqb, ne_eqb, ltb-true, ltb-false}
+use Rattle.std.proofs.lemmas.List.Sums.{sum_by-le}
+use Rattle.std.specs.List.{sum_by}
 use Rattle.cells.specs.declared.times.Slot.{Slot}
 use Rattle.cells.specs.declared.times.Span.{Span}
-use Rattle.cells.specs.declared.faults.Cause.TheVariants.{TooSoon, EligibleOutOfWindow}
+use Rattle.cells.specs.declared.faults.Cause.TheVariants.{NoContract, TooSoon, EligibleOutOfWindow}
+use Rattle.cells.specs.declared.faults.Fault.{Fault}
 use Rattle.header.specs.declared.Header.{Header}
 use Rattle.scheduler.specs.Meaning.{last_slot, outside, some_below, updated}
 use Rattle.scheduler.proofs.Updates.{updated_same}
 use Rattle.paths.specs.declared.trail.Trail.{Trail}
 use Rattle.paths.specs.Laws.{Lawful}
 use Rattle.paths.specs.Route.{Route, Terms, Place, fresh, next, bounds_of, constant_of, entered, placed, cell_after, arrived, delivery_of, noted, ticked}
-use Rattle.paths.specs.Trails.{crowding, Until, Newest}
-use Rattle.paths.specs.Verdicts.{fault, refused_if, bad_hop, holds_of, holds_any, grant_rule, granted, withdrawn, out_of_window, crowded, arrival_rule}
+use Rattle.paths.specs.Trails.{crowding, arrival_by, Until, Newest}
+use Rattle.paths.specs.Verdicts.{fault, refused_if, bad_hop, holds_of, holds_any, grant_rule, granted, withdrawn, out_of_window, crowded, arrival_rule, share_of}
 use Rattle.paths.proofs.Kept.{lawful_fresh, lawful_granted, lawful_withdrawn, lawful_entered, lawful_ticked, in_window, put_from, consents, consents_at, is_none}
+use Rattle.paths.proofs.Parties.{share_few}
 use Rattle.paths.proofs.Present.{none_some, holds_false, any_none}
 use Rattle.paths.proofs.Trails.{Taken, holds_by, crowded_by}
-use Rattle.ends.specs.Ends.{number_in, terms_of, terms_in, latest_in, place_in, still_in, still_any, arrival_at, Noted, route_of, Tracked}
+use Rattle.ends.specs.Ends.{number_in, terms_of, terms_in, latest_in, place_in, still_in, still_any, Noted, route_of, Tracked}
+
+-- an arrival of party p by its trail, if there is one, in slot n, eligible in slot e, where w waits
+abbrev pub arrival_at : Option Trail → (ℕ → Option ℕ) → ℕ → ℕ → ℕ → Option Fault
+arrival_at None w n p e = Some (fault NoContract p 255)
+arrival_at (Some y) w n p e = arrival_by y w n p e
 
 -- a table that is written at one place
 pub at_same : {X : Type 0} (f : ℕ → X) (k q : ℕ) (v : X) → q ≡ k → updated f k v q ≡ v
@@ -297,26 +306,14 @@ not_noted o u d t e f = record { terms = ap terms_in e ∙ sym (ap (λ d. noted 
     by None = refl
     by (Some k) = refl
 
-late : (n lead e : ℕ) → n ≤ e → n + lead ≤ e → out_of_window n lead e ≡ true
-late n lead e a b = cond-false (ltb e n) true _ (le-ltb e n a) ∙ cond-false (ltb e (n + lead)) false true (le-ltb e (n + lead) b)
+-- how many cells of a trail can wait at once, if there is one
+abbrev pub share_in : Option Trail → ℕ
+share_in o = share_of (terms_in o)
 
--- a sum past 32 bits is out of the window, as the greatest number is
-pub arrival_far : (o : Option Trail) (w : ℕ → Option ℕ) (n p e d : ℕ) → n ≤ last_slot + 1 → d ≡ min e 4294967295 → arrival_at o w n p d ≡ arrival_at o w n p e
-arrival_far None w n p e d h m = refl
-arrival_far (Some y) w n p e d h m = elim (cases_lt 4294967295 e) [
-  | inl far ↦ (
-      let top : d ≡ 4294967295 = omega arith in
-      let soon = y.soon in
-      cond-true (out_of_window n y.lead.0 d) _ _ (late n y.lead.0 d (omega arith) (omega arith))
-      ∙ sym (cond-true (out_of_window n y.lead.0 e) _ _ (late n y.lead.0 e (omega arith) (omega arith))))
-  | inr near ↦ (let same : d ≡ e = omega arith in ap (arrival_at (Some y) w n p) same)
-]
+share_most : (o : Option Trail) → share_in o ≤ 191
+share_most None = omega arith
+share_most (Some y) = share_few y
 
--- and one that is in the window is the sum
-pub arrival_near : (y : Trail) (w : ℕ → Option ℕ) (n p e d : ℕ) → n ≤ last_slot + 1 → d ≡ min e 4294967295 → arrival_at (Some y) w n p d ≡ None → (d ≡ e) × (n ≤ d) × (d < n + 191)
-arrival_near y w n p e d h m c =
-    let i = in_window n y.lead.0 d (consents (out_of_window n y.lead.0 d) _ _ c).0 in
-    let a = i.0 in
-    let b = i.1 in
-    let soon = y.soon in
-    (omega arith, a, omega arith)
+-- and of all trails
+pub shares_few : (ts : List (Option Trail)) → length ts ≡ 16 → sum_by share_in ts ≤ 3056
+shares_few ts e = let h = sum_by-le share_in 191 ts (λ k d l. share_most (get_or ts k d)) in omega (arith, ap (λ n. n * 191) e)

@@ -1,14 +1,11 @@
 -- What the end of a path has, by its parts.
-use Rattle.std.specs.Prelude.{◌≡◌, ℕ, Bool, false, [], Some, None, Ok, Err, Option, Result, slice_index_or}
-use Rattle.cells.specs.declared.faults.Cause.TheVariants.{NoContract, TooSoon, EligibleOutOfWindow}
-use Rattle.cells.specs.declared.faults.Fault.{Fault}
+use Rattle.std.specs.Prelude.{◌≡◌, ℕ, Bool, false, [], Some, None, Option, slice_index_or}
 use Rattle.cells.specs.declared.times.Slot.{Slot}
 use Rattle.scheduler.specs.Meaning.{some_below}
 use Rattle.paths.specs.declared.trail.Trail.{Trail}
 use Rattle.paths.specs.Laws.{Lawful}
 use Rattle.paths.specs.Route.{Route, Terms, Place, noted}
-use Rattle.paths.specs.Trails.{crowding, still, Newest}
-use Rattle.paths.specs.Verdicts.{fault, refused_if, out_of_window}
+use Rattle.paths.specs.Trails.{still, Newest}
 use Rattle.ends.specs.declared.trails.Trails.{Trails}
 
 -- the trail of each party, none past the table
@@ -42,18 +39,6 @@ still_in (Some y) n = still y.latest 0 n
 -- whether a cell of any party is
 unfoldable pub still_any : (ℕ → Option Trail) → ℕ → Bool
 still_any ts n = some_below 16 (λ p. still_in (ts p) n)
-
--- an arrival of party p by its trail, in slot n, eligible in slot e, where w waits
-abbrev pub arrival_at : Option Trail → (ℕ → Option ℕ) → ℕ → ℕ → ℕ → Option Fault
-arrival_at None w n p e = Some (fault NoContract p 255)
-arrival_at (Some y) w n p e =
-    refused_if (out_of_window n y.lead.0 e) (fault EligibleOutOfWindow p 255)
-    (refused_if (crowding y.latest y.last y.spacing.0 w e) (fault TooSoon p 255) None)
-
--- what an arrival is answered: the trail of its party, where nothing is refused
-abbrev pub Admitted : Option Trail → (ℕ → Option ℕ) → ℕ → ℕ → ℕ → Result Trail Fault → Type 0
-Admitted o w n p e (Ok y) = (o ≡ Some y) × (arrival_at o w n p e ≡ None)
-Admitted o w n p e (Err f) = arrival_at o w n p e ≡ Some f
 
 -- a trail before and after slot t, in which this was delivered: the slot is its last, and the latest stays
 pub record Noted (old : Option Trail) (o : Option ℕ) (t : ℕ) (new : Option Trail) : Type 0 where

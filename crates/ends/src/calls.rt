@@ -1,15 +1,13 @@
 //! The calls of the end.
 
-ghost use Rattle.std.specs.Prelude.{◌≡◌, ◌+◌, ◌≤◌, min, []};
+ghost use Rattle.std.specs.Prelude.{◌≡◌, ◌≤◌, []};
 ghost use Rattle.paths.specs.Route.{fresh};
 ghost use Rattle.ends.specs.Meant.{end_route};
 ghost use Rattle.std.proofs.Math.Logic.{∥∥₁_elim};
 ghost use Rattle.std.proofs.Props.{props};
 
-use crate::checks::bad_hop;
 use crate::delivery::send_nothing;
 use crate::end::End;
-use crate::keeping::begin;
 use crate::trails::Trails;
 use calendar::grid::Calendar;
 use cells::faults::{Cause, Fault, NO_HOP, NO_PARTY};
@@ -17,16 +15,10 @@ use cells::limits::LAST;
 use cells::times::{Slot, Span};
 use header::Header;
 use paths::Path;
-use paths::checks::{check_terms, refused};
+use paths::bounds::bad_hop;
+use paths::checks::{END, check_terms, refused};
 use paths::tables::Delivery;
-
-/// The slot in which a cell is eligible that arrives so many slots ahead. A sum past 32 bits is
-/// the greatest number, which no window reaches.
-fn eligible(arrival: Slot, ahead: Span) -> Slot
-    ensures { result.0 ≡ min (arrival.0 + ahead.0) 4294967295 }
-{
-    Slot(arrival.0.saturating_add(ahead.0))
-}
+use paths::trail::Trail;
 
 impl End {
     /// With no hop in front: slot 0, no contract, no cell.
@@ -66,10 +58,7 @@ impl Path for End {
 
     /// No hop lies before the end, so a cell leaves in its eligible slot.
     fn constant(&self, party: u8) -> Option<Span> {
-        match self.trails.trail(party) {
-            Some(_) => Some(Span(0)),
-            None => None,
-        }
+        self.trails.trail(party).map(|_| Span(0))
     }
 
     fn holds(&self, party: u8) -> bool {
@@ -85,10 +74,10 @@ impl Path for End {
         lead: Span,
     ) -> Result<(), Fault> {
         let known = self.trails.trail(party).is_some();
-        let bad = bad_hop(self.first, bounds, lead);
+        let bad = bad_hop(self.first, 0, bounds, lead);
         check_terms(party, known, spacing, bad, self.busy())?;
-        let trail = begin(spacing, lead);
-        self.trails.check_room(party, &trail)?;
+        let trail = Trail::new(spacing, lead).unwrap();
+        trail.check_room(self.trails.share(), party, END)?;
         self.trails.keep(party, trail);
         Ok(())
     }
@@ -101,11 +90,11 @@ impl Path for End {
 
     /// The cell waits for its eligible slot: a lead is shorter than the calendar, so there is room.
     fn enter(&mut self, header: &[u8], arrival: Slot) -> Result<(), Fault> {
-        let cell = Header::read(header)?;
-        let eligible = eligible(arrival, cell.ahead);
-        let trail = self.check_arrival(cell.party, eligible)?;
-        let _ = self.waiting.put(cell.party, eligible, cell.label);
-        self.trails.keep(cell.party, trail.entering(eligible));
+        let arrived = Header::read(header)?;
+        let trail = self.trails.contract(arrived.party)?;
+        let cell = trail.check_arrival(&self.waiting, arrived, arrival)?;
+        let _ = self.waiting.put(cell.party, cell.eligible, cell.label);
+        self.trails.keep(cell.party, trail.entering(cell.eligible));
         Ok(())
     }
 

@@ -6,19 +6,18 @@ ghost use Rattle.paths.specs.Route.{noted, delivery_entry};
 ghost use Rattle.ends.specs.Ends.{trail_of, terms_in, latest_in, Noted};
 
 use crate::trails::Trails;
-use cells::limits::{HOPS, PARTIES};
+use cells::parties::ByParty;
 use cells::times::Slot;
 use header::Header;
 use paths::tables::Delivery;
 
 /// Sends nothing from a hop on.
 pub(crate) fn send_nothing(sends: &mut [Option<Header>; 8], first: u8)
+    requires { first ≤ 8 }
     ensures front { (k : ℕ) → k < first → slice_index_or sends.new k None ≡ slice_index_or sends.old k None }
     ensures rest { (k : ℕ) → first ≤ k → slice_index_or sends.new k None ≡ None }
 {
-    for hop in first as usize..HOPS {
-        sends[hop] = None;
-    }
+    sends[usize::from(first)..].fill(None);
 }
 
 impl Trails {
@@ -39,20 +38,21 @@ impl Trails {
     /// before, and its trail notes the slot.
     pub(crate) fn deliver(
         &mut self,
-        row: &[Option<u32>; 16],
+        row: &ByParty<u32>,
         slot: Slot,
         deliveries: &mut [Option<Delivery>; 16],
     )
         requires slots { slot.0 ≤ last_slot + 1 }
         requires empty { (p : ℕ) → slice_index_or deliveries.old p None ≡ None }
-        ensures table { (p : ℕ) → slice_index_or deliveries.new p None ≡ delivery_entry p (slice_index_or row.now p None) }
-        ensures trails { (p : ℕ) → Noted (trail_of self.old p) (slice_index_or row.now p None) slot.0 (trail_of self.new p) }
+        ensures table { (p : ℕ) → slice_index_or deliveries.new p None ≡ delivery_entry p (slice_index_or row.now.entries p None) }
+        ensures trails { (p : ℕ) → Noted (trail_of self.old p) (slice_index_or row.now.entries p None) slot.0 (trail_of self.new p) }
     {
-        for party in 0..PARTIES {
-            if let Some(label) = row[party] {
+        // by index: of a table written through `iter_mut` and `zip` the proof keeps nothing
+        for (party, label) in row.entries().iter().enumerate() {
+            if let Some(label) = *label {
                 let party = party as u8;
                 self.take(party, slot);
-                deliveries[party as usize] = Some(Delivery { party, label });
+                deliveries[usize::from(party)] = Some(Delivery { party, label });
             }
         }
     }

@@ -1,26 +1,9 @@
 //! How trails are kept.
 
-ghost use Rattle.std.specs.Prelude.{◌≡◌, ◌<◌, ◌≤◌, replicate, Some, None, slice_set};
+ghost use Rattle.std.specs.Prelude.{◌≡◌, ◌<◌, replicate, Some, None, slice_set};
 
 use crate::trails::Trails;
-use cells::times::Span;
 use paths::trail::Trail;
-
-/// The trail of a new contract: no cell has entered.
-pub(crate) fn begin(spacing: Span, lead: Span) -> Trail
-    requires { (1 ≤ spacing.0) × ((spacing.0 ≤ 1024) × ((1 ≤ lead.0) × (lead.0 ≤ 191))) }
-    ensures spacing { result.spacing ≡ spacing }
-    ensures lead { result.lead ≡ lead }
-    ensures latest { result.latest ≡ None }
-    ensures last { result.last ≡ None }
-{
-    Trail {
-        spacing,
-        lead,
-        latest: None,
-        last: None,
-    }
-}
 
 impl Trails {
     /// No party has one.

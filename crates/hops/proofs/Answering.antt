@@ -1,5 +1,5 @@
 -- What an answer says of its verdict.
-use Rattle.std.proofs.Common.{◌≡◌, ℕ, ◌≤◌, ltb, Some, None, Ok, Err, Option, refl, ap, arith}
+use Rattle.std.proofs.Common.{◌≡◌, ℕ, ◌≤◌, ltb, true, MatchOption, is_ok, Some, None, Ok, Err, Option, refl, ap, arith}
 use Rattle.std.proofs.lemmas.Bool.{ltb-false}
 use Rattle.cells.specs.declared.faults.Cause.{Cause}
 use Rattle.cells.specs.declared.faults.Fault.{Fault}
@@ -7,6 +7,11 @@ use Rattle.scheduler.specs.Meaning.{told, last_slot}
 use Rattle.paths.specs.Route.{Route}
 use Rattle.paths.specs.Verdicts.{answered, tick_verdict}
 use Rattle.paths.proofs.Kept.{consents}
+
+-- a match on an option, either way
+pub on_match : {X Q : Type 0} (N : Type 0) (P : X → Type 0) (o : Option X) → MatchOption o N P → (o ≡ None → N → Q) → ((x : X) → o ≡ Some x → P x → Q) → Q
+on_match N P None m f h = f refl m
+on_match N P (Some x) m f h = h x refl m
 
 -- an accepted call of a scheduler
 pub told_ok_is : {X : Type 0} (v : Option Cause) (p : ℕ) (x y : X) → Ok x ≡ told v p y → (x ≡ y) × (v ≡ None)
@@ -28,10 +33,8 @@ pub tick_in_time : (r : Route) → tick_verdict r ≡ None → r.slot ≤ last_s
 tick_in_time r e = ltb-false last_slot r.slot (consents (ltb last_slot r.slot) _ None e).0
 
 -- a verdict that consents is not refused
-pub answered_not : (v : Option Fault) (f : Fault) → v ≡ None → Err f ≡ answered v → ⊥
-answered_not None f e q = let z : ◌≡◌ {A = ℕ} 0 1 = cc in omega arith
-answered_not (Some g) f e q = let z : ◌≡◌ {A = ℕ} 0 1 = cc in omega arith
+pub answered_is_ok : (v : Option Fault) → v ≡ None → is_ok (answered v) ≡ true
+answered_is_ok v e = ap (λ w. is_ok (answered w)) e
 
-pub told_not : {X : Type 0} (v : Option Cause) (p : ℕ) (x : X) (f : Fault) → v ≡ None → Err f ≡ told v p x → ⊥
-told_not None p x f e q = let z : ◌≡◌ {A = ℕ} 0 1 = cc in omega arith
-told_not (Some c) p x f e q = let z : ◌≡◌ {A = ℕ} 0 1 = cc in omega arith
+pub told_is_ok : {X : Type 0} (v : Option Cause) (p : ℕ) (x : X) → v ≡ None → is_ok (told v p x) ≡ true
+told_is_ok v p x e = ap (λ w. is_ok (told w p x)) e

@@ -9,7 +9,7 @@ use Rattle.scheduler.specs.Laws.{Past}
 use Rattle.scheduler.specs.Meaning.{put_rule, put_verdict, stamped, some_below}
 use Rattle.paths.specs.Route.{Route, Terms, Place, entered, constant}
 use Rattle.paths.specs.Laws.{Lawful}
-use Rattle.paths.specs.Trails.{crowding}
+use Rattle.paths.specs.Trails.{crowding, arrival_by}
 use Rattle.paths.specs.Verdicts.{fault, refused_if, unless, out_of_window, last_within, within, crowded, arrival_rule}
 use Rattle.paths.proofs.Kept.{consents, in_window, lawful_entered}
 use Rattle.paths.proofs.Present.{within_apart, clear_cell, clear_last}
@@ -22,12 +22,6 @@ use Rattle.hops.proofs.Seen.{none_some, some_same, some_is, option_cases, Both, 
 use Rattle.hops.proofs.Sides.{here_terms, since_last, both_of, settled_of, contract_here, last_here, newest_of}
 use Rattle.hops.proofs.Enters.{Later, first, after, before, Clear, agrees_wait, agrees_put}
 use Rattle.hops.proofs.Levels.{passed_on, entered_behind, level-entered_behind, waiting_parts, entered_waiting, level_waiting, putting_parts, entered_putting, level_putting}
-
--- what the trail of a crossing says of a cell that comes in slot n and is eligible in slot e; w has the cells that wait
-abbrev pub trail_rule : ℕ → Crossing → (ℕ → Option ℕ) → ℕ → ℕ → Option Fault
-trail_rule n x w p e =
-    refused_if (out_of_window n x.trail.lead.0 e) (fault EligibleOutOfWindow p 255)
-    (refused_if (crowding x.trail.latest x.trail.last x.trail.spacing.0 w e) (fault TooSoon p 255) None)
 
 -- the latest slot once a cell entered
 pub later_by : (o n : Option Slot) (e : Slot) → elim o as (λ _. Type 0) [ None ↦ n ≡ Some e | Some a ↦ n ≡ cond (ltb e.0 a.0) (Some a) (Some e) ] → Later o e.0 n
@@ -100,7 +94,7 @@ module _ (k : Parts) (lev : Level k) (p : ℕ) where
     constants = constant_here k.link k.behind.links x b.contract b.terms b.ties
 
     -- so it gives the answer
-    pub rule_here : (e : ℕ) → trail_rule k.behind.slot x (k.waits p) p e ≡ arrival_rule (joined k) ((joined k).contracts p) p e
+    pub rule_here : (e : ℕ) → arrival_by x.trail (k.waits p) k.behind.slot p e ≡ arrival_rule (joined k) ((joined k).contracts p) p e
     rule_here e = by (out_of_window k.behind.slot x.trail.lead.0 e) refl ∙ sym (ap (λ o. arrival_rule (joined k) o p e) (contract_here k lev p x ex))
       where
         by : (t : Bool) → out_of_window k.behind.slot x.trail.lead.0 e ≡ t

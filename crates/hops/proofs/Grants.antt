@@ -294,9 +294,105 @@ pub answer_passed : (o : Option Fault) (u : Unit {0}) → answered o ≡ Ok u �
 answer_passed None u e = refl
 answer_passed (Some f) u e = ok_err u f (sym e)
 
+-- what is checked, by what the hop's calls answer
+pub rule_is : (k : Parts) (known busy : Bool) (bad : Option ℕ) (p s : ℕ) (bs : List Span) (lead : ℕ) (w : Option Fault) → known ≡ is_some (constant_in k.behind.links (k.behind.contracts p)) → bad ≡ bad_hop k.number (k.link ∷ k.behind.links) bs lead → busy ≡ holds_any (joined k)
+    → common_rule known bad busy p s w ≡ grant_rule (joined k) p s bs lead w
+rule_is k known busy bad p s bs lead w a b c = λ i. common_rule ((a ∙ known_here k.behind.links (k.crossings p) (k.behind.contracts p)) i) (b i) (c i) p s w
+
+-- a bad term is refused
+pub bad_terms : (day : ℕ) (k : Parts) (p s : ℕ) (bs : List Span) (lead : ℕ) (ts : List Test) (r : Result (Unit {0}) Fault) (g : Fault) → Sound day k → answered (grant_rule (joined k) p s bs lead None) ≡ Err g → r ≡ Err g
+    → Granting day k k p s bs lead (grant_verdict (joined k) ts p s bs lead) r
+bad_terms day k p s bs lead ts r g h a q =
+    stays day k k p s bs lead (grant_verdict (joined k) ts p s bs lead) r g h refl
+    (rule_refuses (is_some ((joined k).contracts p)) (holds_any (joined k)) (bad_hop k.number (k.link ∷ k.behind.links) bs lead) p s g _ (answer_refused _ g a)) q
+
+module _ (k : Parts) (v : Level k) (p s : ℕ) (bs : List Span) (lead : ℕ) (rule : grant_rule (joined k) p s bs lead None ≡ None) where
+  -- good terms: the room decides
+  pub good_terms : (ts : List Test) → grant_verdict (joined k) ts p s bs lead ≡ admitted k.number (k.link ∷ k.behind.links) ts (joined k).contracts p s bs lead
+  good_terms ts = rule_consents (is_some ((joined k).contracts p)) (holds_any (joined k)) (bad_hop k.number (k.link ∷ k.behind.links) bs lead) p s _ rule
+
+  -- at a hop that is not crossed the path behind decides
+  pub granted-passing : (day : ℕ) (t : Test) (ts : List Test) (b : Route) (r : Result (Unit {0}) Fault) → Sound day k → bound bs k.number ≡ 0 → r ≡ answered (grant_verdict k.behind ts p s bs lead) → b ≡ unless (grant_verdict k.behind ts p s bs lead) k.behind (granted k.behind p s bs lead)
+      → Granting day k (parts k.number k.link k.sched k.waits k.crossings b) p s bs lead (grant_verdict (joined k) (t ∷ ts) p s bs lead) r
+  granted-passing day t ts b r h z a q = by (grant_verdict k.behind ts p s bs lead) refl
+    where
+      same : grant_verdict (joined k) (t ∷ ts) p s bs lead ≡ grant_verdict k.behind ts p s bs lead
+      same = good_terms (t ∷ ts) ∙ verdict_uncrossed k v p s bs lead rule t ts z
+
+      none : k.crossings p ≡ None
+      none = no_crossing k v p s bs lead rule
+
+      new : joined (passed_on k v p (granted k.behind p s bs lead)) ≡ granted (joined k) p s bs lead
+      new = granted_behind k v p none s lead bs z
+
+      by : (w : Option Fault) → grant_verdict k.behind ts p s bs lead ≡ w → Granting day k (parts k.number k.link k.sched k.waits k.crossings b) p s bs lead (grant_verdict (joined k) (t ∷ ts) p s bs lead) r
+      by (Some f) e =
+          stays day k (parts k.number k.link k.sched k.waits k.crossings b) p s bs lead (grant_verdict (joined k) (t ∷ ts) p s bs lead) r f h
+          (λ i. parts k.number k.link k.sched k.waits k.crossings ((q ∙ ap (λ w. unless w k.behind (granted k.behind p s bs lead)) e) i))
+          (same ∙ e) (a ∙ ap answered e)
+      by None e =
+          grows day k (parts k.number k.link k.sched k.waits k.crossings b) (passed_on k v p (granted k.behind p s bs lead)) p s bs lead (grant_verdict (joined k) (t ∷ ts) p s bs lead) r
+          (record { days = h.days; level = level-granted_behind k v p none s lead bs (subst Lawful (sym new) (lawful_granted (joined k) v.lawful p s bs lead rule)) }) new
+          (λ i. parts k.number k.link k.sched k.waits k.crossings ((q ∙ ap (λ w. unless w k.behind (granted k.behind p s bs lead)) e) i))
+          (same ∙ e) (a ∙ ap answered e)
+
+-- a contract that is asked for at a hop which the party crosses, once its terms are checked
+pub record Asked : Type 0 where
+  pub parts : Parts
+  pub level : Level parts
+  pub contracted : Contracted parts.sched
+  pub party : ℕ
+  pub spacing : ℕ
+  pub bounds : List Span
+  pub lead : ℕ
+  pub rule : grant_rule (joined parts) party spacing bounds lead None ≡ None
+  pub test : Test
+  pub tests : List Test
+  pub given : ℕ
+  pub here : given ≡ bound bounds parts.number
+  pub crossed : 1 ≤ given
+
 -- a grant to a party that crosses
-module _ (k : Parts) (v : Level k) (c : Contracted k.sched) (p s : ℕ) (bs : List Span) (lead : ℕ) (rule : grant_rule (joined k) p s bs lead None ≡ None)
-    (t : Test) (ts : List Test) (d : ℕ) (e : d ≡ bound bs k.number) (one : 1 ≤ d) where
+module _ (q : Asked) where
+  abbrev k : Parts
+  k = q.parts
+
+  abbrev v : Level k
+  v = q.level
+
+  abbrev c : Contracted k.sched
+  c = q.contracted
+
+  abbrev p : ℕ
+  p = q.party
+
+  abbrev s : ℕ
+  s = q.spacing
+
+  abbrev bs : List Span
+  bs = q.bounds
+
+  abbrev lead : ℕ
+  lead = q.lead
+
+  abbrev rule : grant_rule (joined k) p s bs lead None ≡ None
+  rule = q.rule
+
+  abbrev t : Test
+  t = q.test
+
+  abbrev ts : List Test
+  ts = q.tests
+
+  abbrev d : ℕ
+  d = q.given
+
+  abbrev e : d ≡ bound bs k.number
+  e = q.here
+
+  abbrev one : 1 ≤ d
+  one = q.crossed
+
   -- whether there is room; what the calendar answers, then the scheduler, then the path behind
   abbrev pub whole : Option Fault
   whole = admitted k.number (k.link ∷ k.behind.links) (t ∷ ts) (joined k).contracts p s bs lead
@@ -382,45 +478,3 @@ module _ (k : Parts) (v : Level k) (c : Contracted k.sched) (p s : ℕ) (bs : Li
               (record { days = h.days; level = level }) new
               (λ i. parts k.number k.link ((y ∙ ap (settled_as m p) ok ∙ scheduled) i) k.waits (q i) (route_is i))
               (whole-there ∙ passed) a
-
--- what is checked, by what the hop's calls answer
-pub rule_is : (k : Parts) (known busy : Bool) (bad : Option ℕ) (p s : ℕ) (bs : List Span) (lead : ℕ) (w : Option Fault) → known ≡ is_some (constant_in k.behind.links (k.behind.contracts p)) → bad ≡ bad_hop k.number (k.link ∷ k.behind.links) bs lead → busy ≡ holds_any (joined k)
-    → common_rule known bad busy p s w ≡ grant_rule (joined k) p s bs lead w
-rule_is k known busy bad p s bs lead w a b c = λ i. common_rule ((a ∙ known_here k.behind.links (k.crossings p) (k.behind.contracts p)) i) (b i) (c i) p s w
-
--- a bad term is refused
-pub bad_terms : (day : ℕ) (k : Parts) (p s : ℕ) (bs : List Span) (lead : ℕ) (ts : List Test) (r : Result (Unit {0}) Fault) (g : Fault) → Sound day k → answered (grant_rule (joined k) p s bs lead None) ≡ Err g → r ≡ Err g
-    → Granting day k k p s bs lead (grant_verdict (joined k) ts p s bs lead) r
-bad_terms day k p s bs lead ts r g h a q =
-    stays day k k p s bs lead (grant_verdict (joined k) ts p s bs lead) r g h refl
-    (rule_refuses (is_some ((joined k).contracts p)) (holds_any (joined k)) (bad_hop k.number (k.link ∷ k.behind.links) bs lead) p s g _ (answer_refused _ g a)) q
-
-module _ (k : Parts) (v : Level k) (p s : ℕ) (bs : List Span) (lead : ℕ) (rule : grant_rule (joined k) p s bs lead None ≡ None) where
-  -- good terms: the room decides
-  pub good_terms : (ts : List Test) → grant_verdict (joined k) ts p s bs lead ≡ admitted k.number (k.link ∷ k.behind.links) ts (joined k).contracts p s bs lead
-  good_terms ts = rule_consents (is_some ((joined k).contracts p)) (holds_any (joined k)) (bad_hop k.number (k.link ∷ k.behind.links) bs lead) p s _ rule
-
-  -- at a hop that is not crossed the path behind decides
-  pub granted-passing : (day : ℕ) (t : Test) (ts : List Test) (b : Route) (r : Result (Unit {0}) Fault) → Sound day k → bound bs k.number ≡ 0 → r ≡ answered (grant_verdict k.behind ts p s bs lead) → b ≡ unless (grant_verdict k.behind ts p s bs lead) k.behind (granted k.behind p s bs lead)
-      → Granting day k (parts k.number k.link k.sched k.waits k.crossings b) p s bs lead (grant_verdict (joined k) (t ∷ ts) p s bs lead) r
-  granted-passing day t ts b r h z a q = by (grant_verdict k.behind ts p s bs lead) refl
-    where
-      same : grant_verdict (joined k) (t ∷ ts) p s bs lead ≡ grant_verdict k.behind ts p s bs lead
-      same = good_terms (t ∷ ts) ∙ verdict_uncrossed k v p s bs lead rule t ts z
-
-      none : k.crossings p ≡ None
-      none = no_crossing k v p s bs lead rule
-
-      new : joined (passed_on k v p (granted k.behind p s bs lead)) ≡ granted (joined k) p s bs lead
-      new = granted_behind k v p none s lead bs z
-
-      by : (w : Option Fault) → grant_verdict k.behind ts p s bs lead ≡ w → Granting day k (parts k.number k.link k.sched k.waits k.crossings b) p s bs lead (grant_verdict (joined k) (t ∷ ts) p s bs lead) r
-      by (Some f) e =
-          stays day k (parts k.number k.link k.sched k.waits k.crossings b) p s bs lead (grant_verdict (joined k) (t ∷ ts) p s bs lead) r f h
-          (λ i. parts k.number k.link k.sched k.waits k.crossings ((q ∙ ap (λ w. unless w k.behind (granted k.behind p s bs lead)) e) i))
-          (same ∙ e) (a ∙ ap answered e)
-      by None e =
-          grows day k (parts k.number k.link k.sched k.waits k.crossings b) (passed_on k v p (granted k.behind p s bs lead)) p s bs lead (grant_verdict (joined k) (t ∷ ts) p s bs lead) r
-          (record { days = h.days; level = level-granted_behind k v p none s lead bs (subst Lawful (sym new) (lawful_granted (joined k) v.lawful p s bs lead rule)) }) new
-          (λ i. parts k.number k.link k.sched k.waits k.crossings ((q ∙ ap (λ w. unless w k.behind (granted k.behind p s bs lead)) e) i))
-          (same ∙ e) (a ∙ ap answered e)

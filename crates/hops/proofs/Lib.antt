@@ -7,7 +7,6 @@ pub mod Handover
 pub mod Levels
 pub mod Opened
 pub mod Presence
-pub mod RowSteps
 pub mod Seen
 pub mod Serving
 pub mod Sides

@@ -1,11 +1,9 @@
 -- Whether a cell of a party is on the path, from a hop on.
-use Rattle.std.proofs.Common.{◌≡◌, ℕ, ◌<◌, true, false, Some, None, sym, ap, ◌∙◌, inl, inr}
+use Rattle.std.proofs.Common.{◌≡◌, ℕ, Some, None, sym, ap, ◌∙◌, inl, inr}
 use Rattle.std.proofs.lemmas.Bool.{cases_Bool, both_ways}
-use Rattle.scheduler.proofs.Holds.{below_true, below_false}
 use Rattle.paths.specs.Laws.{Lawful}
-use Rattle.paths.specs.Route.{Route}
 use Rattle.paths.specs.Trails.{still}
-use Rattle.paths.specs.Verdicts.{holds_of, holds_any}
+use Rattle.paths.specs.Verdicts.{holds_of}
 use Rattle.paths.proofs.Present.{holds_none, holds_false}
 use Rattle.paths.proofs.Trails.{holds_by}
 use Rattle.hops.specs.declared.crossing.Crossing.{Crossing}
@@ -28,12 +26,3 @@ module _ (k : Parts) (lev : Level k) (p : ℕ) where
     ]
     | inr t ↦ holds_false (joined k) p (λ v. seen_behind (side k p) v (ap (λ x. leaving x (own (side k p)) v) e) ∙ ap deeper (holds_none k.behind lb p t v)) ∙ sym t
   ]
-
--- one party has a cell, or none has
-pub any_true : (r : Route) (p : ℕ) → p < 16 → holds_of r p ≡ true → holds_any r ≡ true
-unfolding holds_any
-any_true r p h e = below_true 16 (holds_of r) p h e
-
-pub any_none_below : (r : Route) → ((p : ℕ) → p < 16 → holds_of r p ≡ false) → holds_any r ≡ false
-unfolding holds_any
-any_none_below r h = below_false 16 (holds_of r) h

@@ -1,5 +1,5 @@
 -- What a hop shows of one party.
-use Rattle.std.proofs.Common.{◌≡◌, ℕ, suc, ◌+◌, ◌-◌, ◌≤◌, true, eqb, ltb, ◌⊎◌, List, ◌∷◌, is_some, Some, None, Option, sym, refl, ap, ◌∙◌, subst, inl, inr, arith}
+use Rattle.std.proofs.Common.{◌≡◌, ℕ, suc, ◌+◌, ◌-◌, ◌≤◌, true, false, eqb, ltb, ◌⊎◌, List, ◌∷◌, is_some, Some, None, Option, sym, refl, ap, ◌∙◌, subst, inl, inr, arith}
 use Rattle.std.proofs.lemmas.Bool.{cond-true, cond-false, le-ltb, ltb-false, cases_Bool, ne_eqb}
 use Rattle.scheduler.specs.declared.terms.Contract.{Contract}
 use Rattle.paths.specs.Route.{Terms, Place, constant, cost}
@@ -22,6 +22,10 @@ option_cases (Some x) = inr (x, refl)
 pub some_is : {X : Type 0} (o : Option X) → is_some o ≡ true → (x : X) × (o ≡ Some x)
 some_is None e = absurd (let z : ◌≡◌ {A = ℕ} 0 1 = cc in omega arith)
 some_is (Some x) e = (x, refl)
+
+pub none_is : {X : Type 0} (o : Option X) → is_some o ≡ false → o ≡ None
+none_is None e = refl
+none_is (Some x) e = absurd (let z : ◌≡◌ {A = ℕ} 0 1 = cc in omega arith)
 
 -- a party that crosses has both contracts
 pub record Both (g : ℕ) (gs : List ℕ) (x : Crossing) (oc : Option Contract) (ot : Option Terms) : Type 0 where

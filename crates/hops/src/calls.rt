@@ -1,6 +1,6 @@
 //! A hop's calls.
 
-ghost use Rattle.std.specs.Prelude.{◌≡◌, ℕ, ◌+◌, ◌<◌, ◌≤◌, ◌∷◌, length, if◌then◌else◌, Some, None, nat_eq};
+ghost use Rattle.std.specs.Prelude.{◌≡◌, ℕ, ◌+◌, ◌<◌, ◌≤◌, ◌∷◌, true, length, is_some, if◌then◌else◌, Some, None, nat_eq};
 ghost use Rattle.calendar.specs.Days.{now_of, waiting_of};
 ghost use Rattle.scheduler.specs.Meaning.{last_slot, put_verdict};
 ghost use Rattle.paths.specs.Route.{fresh};
@@ -13,22 +13,20 @@ ghost use Rattle.scheduler.specs.declared.terms.Cell.{Cell};
 ghost use Rattle.std.proofs.Math.Logic.{∥∥₁_elim};
 ghost use Rattle.std.proofs.Props.{props};
 
-use crate::crossing::Crossing;
 use crate::crossings::Crossings;
 use crate::hop::Hop;
-use crate::moving::{arrival_of, forward, header_of, note, put_row};
+use crate::moving::{arrival_of, forward, note, put_row};
 use calendar::grid::Calendar;
 use cells::faults::{Cause, Fault, NO_HOP};
-use cells::limits::LINK_MAX;
+use cells::limits::LAST_PARTY;
 use cells::times::{Slot, Span};
 use header::Header;
 use paths::Path;
-use paths::bounds::{bad_bound, bound_at};
-use paths::checks::{LEAD_MAX, check_terms, refused};
+use paths::bounds::{bad_hop, bound_at};
+use paths::checks::{check_terms, refused};
 use paths::tables::Delivery;
 use paths::trail::Trail;
 use scheduler::Scheduler;
-use scheduler::changes::out_of_range;
 use scheduler::terms::Cell;
 
 /// Puts the cells that have waited for this slot into the scheduler, and ends the slot of the calendar.
@@ -60,10 +58,8 @@ fn send<P: Path>(
     ensures { Handed (crossings_of crossings.now) link.0 slot.0 served result (P.Path.route behind.old) (P.Path.route behind.new) }
 {
     let cell = served?;
-    let Some(crossing) = crossings.of(cell.party) else {
-        unreachable()
-    };
-    let header = header_of(cell, crossing.bound, slot);
+    let crossing = crossings.of(cell.party).unwrap();
+    let header = crossing.header_of(cell, slot);
     forward(behind, header, arrival_of(slot, link));
     Some(header)
 }
@@ -73,39 +69,26 @@ impl<S: Scheduler, P: Path> Hop<S, P> {
     fn holds_cell(&self, party: u8) -> bool
         ensures { result ≡ holds_of (hop_route S.Scheduler.meaning P.Path.route self.now) party }
     {
-        match self.crossings.of(party) {
-            Some(crossing) => crossing
-                .trail
-                .still_on(crossing.constant, self.waiting.slot()),
-            None => self.behind.holds(party),
-        }
+        self.crossings.of(party).map_or_else(
+            || self.behind.holds(party),
+            |crossing| {
+                crossing
+                    .trail
+                    .still_on(crossing.constant, self.waiting.slot())
+            },
+        )
     }
 
     /// Whether any cell is on the path.
     fn busy(&self) -> bool
         ensures { result ≡ holds_any (hop_route S.Scheduler.meaning P.Path.route self.now) }
     {
-        for party in 0..16 {
-            if self.holds_cell(party) {
-                return true;
-            }
-        }
-        false
-    }
-
-    /// The lowest hop with a bad bound; a lead out of range counts as this one.
-    fn bad_hop(&self, bounds: &[Span; 8], lead: Span) -> Option<u8>
-        ensures { result ≡ bad_hop self.now.number (self.now.link.0 ∷ (P.Path.route self.now.behind).links) bounds.now lead.0 }
-    {
-        if out_of_range(1, LEAD_MAX, lead) {
-            return Some(self.number);
-        }
-        bad_bound(self.number, self.behind.hops() + 1, bounds)
+        (0..=LAST_PARTY).any(|party| self.holds_cell(party))
     }
 
     /// Takes away the contract of a party that crosses, here and behind, unless a cell of it is on the path.
-    fn uncross(&mut self, party: u8, crossing: Crossing) -> Result<(), Fault>
-        requires crosses { crossings_of self.old.crossings party ≡ Some crossing }
+    fn uncross(&mut self, party: u8) -> Result<(), Fault>
+        requires crosses { is_some (crossings_of self.old.crossings party) ≡ true }
         requires party { party < 16 }
         ensures answer { result ≡ answered (withdraw_verdict (hop_route S.Scheduler.meaning P.Path.route self.old) party) }
         ensures becomes { hop_route S.Scheduler.meaning P.Path.route self.new ≡ unless (withdraw_verdict (hop_route S.Scheduler.meaning P.Path.route self.old) party) (hop_route S.Scheduler.meaning P.Path.route self.old) (withdrawn (hop_route S.Scheduler.meaning P.Path.route self.old) party) }
@@ -113,14 +96,8 @@ impl<S: Scheduler, P: Path> Hop<S, P> {
         if self.holds_cell(party) {
             return Err(refused(Cause::PartyHasCells, party, NO_HOP));
         }
-        match self.scheduler.withdraw(party) {
-            Ok(()) => {}
-            Err(_) => unreachable(),
-        }
-        match self.behind.withdraw(party) {
-            Ok(()) => {}
-            Err(_) => unreachable(),
-        }
+        self.scheduler.withdraw(party).unwrap();
+        self.behind.withdraw(party).unwrap();
         self.crossings.set(party, None);
         Ok(())
     }
@@ -142,10 +119,10 @@ impl<S: Scheduler, P: Path> Path for Hop<S, P> {
     }
 
     fn constant(&self, party: u8) -> Option<Span> {
-        match self.crossings.of(party) {
-            Some(crossing) => Some(crossing.constant),
-            None => self.behind.constant(party),
-        }
+        self.crossings
+            .of(party)
+            .map(|crossing| crossing.constant)
+            .or_else(|| self.behind.constant(party))
     }
 
     fn holds(&self, party: u8) -> bool {
@@ -160,35 +137,27 @@ impl<S: Scheduler, P: Path> Path for Hop<S, P> {
         lead: Span,
     ) -> Result<(), Fault> {
         let known = self.behind.constant(party).is_some();
-        check_terms(
-            party,
-            known,
-            spacing,
-            self.bad_hop(bounds, lead),
-            self.busy(),
-        )?;
+        let bad = bad_hop(self.number, self.hops(), bounds, lead);
+        check_terms(party, known, spacing, bad, self.busy())?;
         let bound = bound_at(bounds, self.number);
         if bound.0 == 0 {
             return self.behind.grant(party, spacing, bounds, lead);
         }
-        let trail = Trail {
-            spacing,
-            lead,
-            latest: None,
-            last: None,
-        };
+        let trail = Trail::new(spacing, lead).unwrap();
         self.cross(party, trail, bound, bounds)
     }
 
     fn withdraw(&mut self, party: u8) -> Result<(), Fault> {
-        match self.crossings.of(party) {
-            Some(crossing) => self.uncross(party, crossing),
-            None => self.behind.withdraw(party),
+        if self.crossings.of(party).is_some() {
+            self.uncross(party)
+        } else {
+            self.behind.withdraw(party)
         }
     }
 
     fn enter(&mut self, header: &[u8], arrival: Slot) -> Result<(), Fault> {
         let arrived = Header::read(header)?;
+        // no `map_or_else`: both arms borrow the hop mutably
         match self.crossings.of(arrived.party) {
             Some(crossing) => self.receive(crossing, arrived, arrival),
             None => self.behind.enter(header, arrival),
@@ -203,10 +172,7 @@ impl<S: Scheduler, P: Path> Path for Hop<S, P> {
         let slot = self.waiting.slot();
         self.behind.tick(deliveries, sends)?;
         admit(&mut self.scheduler, &mut self.waiting, &mut self.crossings);
-        let served = match self.scheduler.serve() {
-            Ok(served) => served,
-            Err(_) => unreachable(),
-        };
+        let served = self.scheduler.serve().unwrap();
         let sent = send(&self.crossings, self.link, &mut self.behind, served, slot);
         note(sends, self.number, sent);
         Ok(())

@@ -8,6 +8,7 @@ ghost use Rattle.hops.specs.Crossed.{crossings_of, crossing_load, Took};
 use crate::crossing::Crossing;
 use crate::crossings::Crossings;
 use cells::limits::LAST_PARTY;
+use cells::parties::ByParty;
 use cells::times::Slot;
 
 impl Crossings {
@@ -44,19 +45,16 @@ impl Crossings {
         ensures value { result ≡ sum_below 16 (λ q. crossing_load (crossings_of self.now q)) }
         ensures few { result ≤ 3056 }
     {
-        let mut sum = 0;
-        for party in 0..16 {
-            sum += load_of(self.parties[party]);
-        }
-        sum
+        self.parties.iter().map(|crossing| load_of(*crossing)).sum()
     }
 
     /// Notes that the cells of these parties were taken in a slot, to be sent.
-    pub(crate) fn take_row(&mut self, row: &[Option<u32>; 16], slot: Slot)
-        ensures { (p : ℕ) → Took (slice_index_or row.now p None) slot.0 (crossings_of self.old p) (crossings_of self.new p) }
+    pub(crate) fn take_row(&mut self, row: &ByParty<u32>, slot: Slot)
+        ensures { (p : ℕ) → Took (slice_index_or row.now.entries p None) slot.0 (crossings_of self.old p) (crossings_of self.new p) }
     {
-        for party in 0..16 {
-            self.parties[party] = taken(row[party], self.parties[party], slot);
+        // by index: of a table written through `iter_mut` and `zip` the proof keeps nothing
+        for (party, label) in row.entries().iter().enumerate() {
+            self.parties[party] = taken(*label, self.parties[party], slot);
         }
     }
 }
@@ -66,21 +64,16 @@ fn load_of(crossing: Option<Crossing>) -> u32
     ensures value { result ≡ crossing_load crossing }
     ensures few { result ≤ 191 }
 {
-    match crossing {
-        Some(crossing) => crossing.trail.share(),
-        None => 0,
-    }
+    crossing.map_or(0, |crossing| crossing.trail.share())
 }
 
 // A crossing after a slot in which its cell, if there was one, was taken to be sent.
 fn taken(label: Option<u32>, crossing: Option<Crossing>, slot: Slot) -> Option<Crossing>
     ensures { Took label slot.0 crossing result }
 {
-    match (label, crossing) {
-        (Some(_), Some(mut crossed)) => {
-            crossed.trail = crossed.trail.taking(slot);
-            Some(crossed)
-        }
-        _ => crossing,
+    if label.is_some() {
+        crossing.map(|crossing| crossing.taking(slot))
+    } else {
+        crossing
     }
 }

@@ -16,11 +16,7 @@ use scheduler::Scheduler;
 fn short(link: u8) -> Span
     ensures { result.0 ≡ min link 63 }
 {
-    if link > LINK_MAX {
-        Span(u32::from(LINK_MAX))
-    } else {
-        Span(u32::from(link))
-    }
+    Span(u32::from(link.min(LINK_MAX)))
 }
 
 impl<S: Scheduler, P: Path> Hop<S, P> {

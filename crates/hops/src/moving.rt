@@ -6,6 +6,8 @@ ghost use Rattle.paths.specs.Route.{entered};
 ghost use Rattle.paths.specs.Verdicts.{arrival_rule};
 ghost use Rattle.hops.specs.Rows.{with_row, with_one};
 
+use crate::crossing::Crossing;
+use cells::parties::ByParty;
 use cells::times::{Slot, Span};
 use header::{Header, LENGTH};
 use paths::Path;
@@ -18,39 +20,36 @@ fn put_one<S: Scheduler>(scheduler: &mut S, party: u8, label: Option<u32>)
     ensures { S.Scheduler.meaning scheduler.new ≡ with_one label party (S.Scheduler.meaning scheduler.old) }
 {
     if let Some(label) = label {
-        match scheduler.put(party, label) {
-            Ok(()) => {}
-            Err(_) => unreachable(),
-        }
+        scheduler.put(party, label).unwrap();
     }
 }
 
 /// Puts the cells of a row, by party. The scheduler takes each.
-pub(crate) fn put_row<S: Scheduler>(scheduler: &mut S, row: &[Option<u32>; 16])
-    requires { (p l : ℕ) → slice_index_or row.now p None ≡ Some l → put_verdict (S.Scheduler.meaning scheduler.old) p ≡ None }
-    ensures { S.Scheduler.meaning scheduler.new ≡ with_row (λ p. get_or row.now p None) (S.Scheduler.meaning scheduler.old) }
+pub(crate) fn put_row<S: Scheduler>(scheduler: &mut S, row: &ByParty<u32>)
+    requires { (p l : ℕ) → slice_index_or row.now.entries p None ≡ Some l → put_verdict (S.Scheduler.meaning scheduler.old) p ≡ None }
+    ensures { S.Scheduler.meaning scheduler.new ≡ with_row (λ p. get_or row.now.entries p None) (S.Scheduler.meaning scheduler.old) }
 {
-    for party in 0..16 {
-        put_one(scheduler, party, row[party as usize]);
+    for (party, label) in row.entries().iter().enumerate() {
+        put_one(scheduler, party as u8, *label);
     }
 }
 
-/// The header of a cell that is sent in a slot: how far ahead of its due slot that is.
-pub(crate) fn header_of(cell: Cell, bound: Span, slot: Slot) -> Header
-    requires slots { slot.0 ≤ last_slot + 1 }
-    requires bounded { 1 ≤ bound.0 }
-    requires prompt { bound.0 ≤ 128 }
-    requires ready { cell.eligible.0 ≤ slot.0 }
-    requires timely { slot.0 ≤ due cell.eligible.0 bound.0 }
-    ensures party { result.party ≡ cell.party }
-    ensures ahead { slot.0 + result.ahead.0 ≡ due cell.eligible.0 bound.0 }
-    ensures label { result.label ≡ cell.label }
-{
-    let due = cell.eligible + Span(bound.0 - 1);
-    Header {
-        party: cell.party,
-        ahead: due - slot,
-        label: cell.label,
+impl Crossing {
+    /// The header of a cell that is sent in a slot: how far ahead of its due slot that is.
+    pub(crate) fn header_of(&self, cell: Cell, slot: Slot) -> Header
+        requires slots { slot.0 ≤ last_slot + 1 }
+        requires ready { cell.eligible.0 ≤ slot.0 }
+        requires timely { slot.0 ≤ due cell.eligible.0 self.now.bound.0 }
+        ensures party { result.party ≡ cell.party }
+        ensures ahead { slot.0 + result.ahead.0 ≡ due cell.eligible.0 self.now.bound.0 }
+        ensures label { result.label ≡ cell.label }
+    {
+        let due = cell.eligible + Span(self.bound.0 - 1);
+        Header {
+            party: cell.party,
+            ahead: due - slot,
+            label: cell.label,
+        }
     }
 }
 
@@ -68,7 +67,7 @@ pub(crate) fn note(sends: &mut [Option<Header>; 8], hop: u8, entry: Option<Heade
     requires { hop < 8 }
     ensures { sends.new ≡ slice_set sends.old hop entry }
 {
-    sends[hop as usize] = entry;
+    sends[usize::from(hop)] = entry;
 }
 
 /// Writes a header, and has the cell enter the path behind by it, which takes it.
@@ -79,12 +78,6 @@ pub(crate) fn forward<P: Path>(behind: &mut P, header: Header, arrival: Slot)
     ensures { P.Path.route behind.new ≡ entered (P.Path.route behind.old) header.party (arrival.0 + header.ahead.0) header.label }
 {
     let mut bytes = [0; LENGTH];
-    match header.write(&mut bytes) {
-        Ok(()) => {}
-        Err(_) => unreachable(),
-    }
-    match behind.enter(&bytes, arrival) {
-        Ok(()) => {}
-        Err(_) => unreachable(),
-    }
+    header.write(&mut bytes).unwrap();
+    behind.enter(&bytes, arrival).unwrap();
 }

@@ -1,5 +1,5 @@
 -- What each call keeps of the laws.
-use Rattle.std.proofs.Common.{◌≡◌, ℕ, zero, suc, ◌+◌, ◌<◌, ◌≤◌, Bool, true, false, cond, eqb, ltb, ◌⊎◌, List, [], ◌∷◌, length, get_or, is_some, Some, None, Option, sym, refl, ap, ◌∙◌, subst, inl, inr, arith}
+use Rattle.std.proofs.Common.{◌≡◌, ℕ, zero, suc, ◌+◌, ◌<◌, ◌≤◌, Bool, true, false, cond, not, ◌||◌, eqb, ltb, ◌⊎◌, List, [], ◌∷◌, length, get_or, is_some, Some, None, Option, sym, refl, ap, ◌∙◌, subst, inl, inr, arith}
 use Rattle.std.proofs.lemmas.Bool.{both_ways, cases_eq, cond_both, eqb-true, ltb-true, ltb-false}
 use Rattle.cells.specs.declared.faults.Fault.{Fault}
 use Rattle.cells.specs.declared.times.Span.{Span}
@@ -116,6 +116,20 @@ lawful_granted r law p s bs lead e =
       over = λ u q. absurd (none_some refl q);
     } in
     recontracted r law p _ (any_none r law f.0 p) (λ h. absurd (omega arith)) (λ t q. (subst (InRange r) (cc) new))
+
+-- the terms of a grant that the rule passes are in range
+pub terms_good : (r : Route) (p s : ℕ) (bs : List Span) (lead : ℕ) → grant_rule r p s bs lead None ≡ None → not (outside 1 1024 s || outside 1 191 lead) ≡ true
+terms_good r p s bs lead e =
+    let a = consents (ltb 15 p) _ _ e in
+    let b = consents (is_some (r.contracts p)) _ _ a.1 in
+    let c = consents (outside 1 1024 s) _ _ b.1 in
+    let d = consents_at (bad_hop r.first r.links bs lead) p _ c.1 in
+    let g = no_first (outside 1 191 lead) (own_number r.first r.links) (bad_bound r.first r.links bs) d.0 in
+    ap (λ b. not (b || outside 1 191 lead)) c.0 ∙ ap not g.0
+
+-- and so is the party
+pub party_good : (r : Route) (p s : ℕ) (bs : List Span) (lead : ℕ) → grant_rule r p s bs lead None ≡ None → p ≤ 15
+party_good r p s bs lead e = ltb-false 15 p (consents (ltb 15 p) _ _ e).0
 
 -- a withdrawal
 pub lawful_withdrawn : (r : Route) → Lawful r → (p : ℕ) → holds_of r p ≡ false → Lawful (withdrawn r p)

@@ -1,9 +1,12 @@
 -- What a trail says of a party's cells that wait.
 use Rattle.std.specs.Prelude.{◌≡◌, ℕ, ◌+◌, ◌≤◌, Bool, true, false, cond, ◌⊎◌, is_some, Some, None, Option, nat_lt}
+use Rattle.cells.specs.declared.faults.Cause.TheVariants.{TooSoon, EligibleOutOfWindow}
+use Rattle.cells.specs.declared.faults.Fault.{Fault}
 use Rattle.cells.specs.declared.times.Slot.{Slot}
 use Rattle.scheduler.specs.Meaning.{some_below}
 use Rattle.paths.specs.Route.{Route, Terms, Place}
-use Rattle.paths.specs.Verdicts.{within}
+use Rattle.paths.specs.Verdicts.{fault, refused_if, out_of_window, within}
+use Rattle.paths.specs.declared.trail.Trail.{Trail}
 
 -- slot e comes sooner than s slots after a slot, if there is one
 abbrev pub follows : Option Slot → ℕ → ℕ → Bool
@@ -19,6 +22,12 @@ waits_near w s e = some_below (e + s) (λ a. cond (within s e a) (is_some (w a))
 abbrev pub crowding : Option Slot → Option Slot → ℕ → (ℕ → Option ℕ) → ℕ → Bool
 crowding None last s w e = false
 crowding (Some a) last s w e = cond (nat_lt e (a.0 + s)) (cond (nat_lt a.0 (e + s)) true (cond (follows last s e) true (waits_near w s e))) false
+
+-- an arrival of party p by its trail, in slot n, eligible in slot e, where w waits
+abbrev pub arrival_by : Trail → (ℕ → Option ℕ) → ℕ → ℕ → ℕ → Option Fault
+arrival_by y w n p e =
+    refused_if (out_of_window n y.lead.0 e) (fault EligibleOutOfWindow p 255)
+    (refused_if (crowding y.latest y.last y.spacing.0 w e) (fault TooSoon p 255) None)
 
 -- whether a cell of the trail is still on the path in slot n, c slots of path after its eligible slot
 abbrev pub still : Option Slot → ℕ → ℕ → Bool

@@ -1,10 +1,11 @@
 //! What every hop and the end refuse alike.
 
-ghost use Rattle.std.specs.Prelude.{◌≡◌, ◌≤◌, None};
-ghost use Rattle.paths.specs.Verdicts.{fault, share, common_rule, answered};
+ghost use Rattle.std.specs.Prelude.{◌≡◌, ◌+◌, ◌≤◌, None, nat_lt};
+ghost use Rattle.cells.specs.declared.faults.Cause.TheVariants.{CalendarExceeded};
+ghost use Rattle.paths.specs.Verdicts.{fault, refused_if, share, common_rule, answered};
 
 use crate::trail::Trail;
-use cells::faults::{Cause, Fault, Layer, NO_HOP, NO_LINE};
+use cells::faults::{Cause, Fault, Layer, NO_HOP};
 use cells::limits::LAST_PARTY;
 use cells::times::Span;
 use scheduler::changes::{SPACING_MAX, out_of_range};
@@ -21,11 +22,8 @@ pub fn refused(cause: Cause, party: u8, hop: u8) -> Fault
     ensures { result ≡ fault cause party hop }
 {
     Fault {
-        cause,
-        layer: Layer::Hop,
-        party,
         hop,
-        line: NO_LINE,
+        ..Fault::of_party(cause, Layer::Hop, party)
     }
 }
 
@@ -36,6 +34,17 @@ impl Trail {
         ensures few { result ≤ 191 }
     {
         self.lead.0.div_ceil(self.spacing.0)
+    }
+
+    /// Refuses this trail to a new contract where its cells could outgrow the calendar of a hop or
+    /// the end beside the cells of the others, of which `others` can wait at once.
+    pub fn check_room(&self, others: u32, party: u8, hop: u8) -> Result<(), Fault>
+        ensures { result ≡ answered (refused_if (nat_lt 192 (others + share self.now.lead.0 self.now.spacing.0)) (fault CalendarExceeded party hop) None) }
+    {
+        if others.saturating_add(self.share()) > CALENDAR {
+            return Err(refused(Cause::CalendarExceeded, party, hop));
+        }
+        Ok(())
     }
 }
 

@@ -1,8 +1,11 @@
 //! What is kept of a party's cells where they wait.
 
-ghost use Rattle.std.specs.Prelude.{◌≤◌};
+ghost use Rattle.std.specs.Prelude.{◌≡◌, ◌≤◌, ◌||◌, not, IfSome, is_some, None};
+ghost use Rattle.scheduler.specs.Meaning.{outside};
 
+use crate::checks::LEAD_MAX;
 use cells::times::{Slot, Span};
+use scheduler::changes::{SPACING_MAX, out_of_range};
 
 /// What a hop or the end keeps of a party whose cells wait there: the spacing and the lead of its
 /// contract; the latest slot in which a cell that has entered here is or was eligible; and the
@@ -17,4 +20,24 @@ pub struct Trail {
     ghost near: { spacing.0 ≤ 1024 },
     ghost led: { 1 ≤ lead.0 },
     ghost soon: { lead.0 ≤ 191 },
+}
+
+impl Trail {
+    /// The trail of a new contract: no cell has entered. None where the spacing or the lead is out
+    /// of range.
+    pub fn new(spacing: Span, lead: Span) -> Option<Trail>
+        ensures some { is_some result ≡ not (outside 1 1024 spacing.0 || outside 1 191 lead.0) }
+        ensures terms { IfSome result (λ t. (t.spacing ≡ spacing) × (t.lead ≡ lead)) }
+        ensures unused { IfSome result (λ t. (t.latest ≡ None) × (t.last ≡ None)) }
+    {
+        if out_of_range(1, SPACING_MAX, spacing) || out_of_range(1, LEAD_MAX, lead) {
+            return None;
+        }
+        Some(Trail {
+            spacing,
+            lead,
+            latest: None,
+            last: None,
+        })
+    }
 }

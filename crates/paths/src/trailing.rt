@@ -1,19 +1,32 @@
 //! What a trail says of a cell that comes, and how it goes on.
 
-ghost use Rattle.std.specs.Prelude.{◌≡◌, ◌+◌, ltb, if◌then◌else◌, Some, None, nat_lt};
-ghost use Rattle.calendar.specs.Days.{waiting_of};
-ghost use Rattle.paths.specs.Trails.{follows, waits_near, crowding, still};
+ghost use Rattle.std.specs.Prelude.{◌≡◌, ◌+◌, ◌^◌, ◌≤◌, ltb, if◌then◌else◌, MatchOption, IfOk, Some, None, nat_lt};
+ghost use Rattle.std.specs.Result.{result_err};
+ghost use Rattle.calendar.specs.Days.{now_of, waiting_of};
+ghost use Rattle.paths.specs.Trails.{follows, waits_near, crowding, still, arrival_by};
 ghost use Rattle.paths.specs.Verdicts.{out_of_window};
 
+use crate::checks::refused;
 use crate::trail::Trail;
 use calendar::grid::Calendar;
+use cells::faults::{Cause, Fault, NO_HOP};
 use cells::times::{Slot, Span};
+use header::Header;
+use scheduler::terms::Cell;
 
 /// The slot so many slots after another, in 64 bits, which hold every such sum.
 fn after(slot: Slot, span: Span) -> u64
     ensures { result ≡ slot.0 + span.0 }
 {
     u64::from(slot.0) + u64::from(span.0)
+}
+
+/// The slot in which a cell is eligible that arrives in a slot, so many slots ahead. None where
+/// that slot has no number in 32 bits.
+fn eligible_from(arrival: Slot, ahead: Span) -> Option<Slot>
+    ensures { MatchOption result (2 ^ 32 ≤ arrival.0 + ahead.0) (λ e. e.0 ≡ arrival.0 + ahead.0) }
+{
+    arrival.0.checked_add(ahead.0).map(Slot)
 }
 
 /// Whether a slot comes sooner than so many slots after another.
@@ -29,25 +42,20 @@ impl Trail {
     pub fn crowded(&self, waiting: &Calendar, party: u8, eligible: Slot) -> bool
         ensures { result ≡ crowding self.now.latest self.now.last self.now.spacing.0 (waiting_of waiting.now party) eligible.0 }
     {
-        let Some(latest) = self.latest else {
-            return false;
-        };
-        if !sooner(eligible, latest, self.spacing) {
-            return false;
-        }
-        sooner(latest, eligible, self.spacing)
-            || self.follows(eligible)
-            || self.waits_near(waiting, party, eligible)
+        self.latest.is_some_and(|latest| {
+            sooner(eligible, latest, self.spacing)
+                && (sooner(latest, eligible, self.spacing)
+                    || self.follows(eligible)
+                    || self.waits_near(waiting, party, eligible))
+        })
     }
 
     // Whether the slot comes sooner than a spacing after the last that was taken.
     fn follows(&self, eligible: Slot) -> bool
         ensures { result ≡ follows self.now.last self.now.spacing.0 eligible.0 }
     {
-        match self.last {
-            Some(last) => sooner(eligible, last, self.spacing),
-            None => false,
-        }
+        self.last
+            .is_some_and(|last| sooner(eligible, last, self.spacing))
     }
 
     // Whether a cell waits less than a spacing from the slot. Where the last of these slots has no
@@ -65,10 +73,8 @@ impl Trail {
     pub fn still_on(&self, constant: Span, slot: Slot) -> bool
         ensures { result ≡ still self.now.latest constant.0 slot.0 }
     {
-        match self.latest {
-            Some(latest) => after(latest, constant) >= u64::from(slot.0),
-            None => false,
-        }
+        self.latest
+            .is_some_and(|latest| after(latest, constant) >= u64::from(slot.0))
     }
 
     /// Whether a cell that comes in `slot` is eligible too early or too late: below that slot, or
@@ -79,37 +85,53 @@ impl Trail {
         eligible < slot || !sooner(eligible, slot, self.lead)
     }
 
+    /// The cell of a header that arrives in a slot, unless it is refused: it is eligible outside the
+    /// window, or less than a spacing from another cell of the party. `waiting` has the cells that
+    /// wait here.
+    pub fn check_arrival(
+        &self,
+        waiting: &Calendar,
+        arrived: Header,
+        arrival: Slot,
+    ) -> Result<Cell, Fault>
+        ensures cell { IfOk result (λ c. (c.party ≡ arrived.party) × (c.eligible.0 ≡ arrival.0 + arrived.ahead.0) × (c.label ≡ arrived.label)) }
+        ensures verdict { result_err result ≡ arrival_by self.now (waiting_of waiting.now arrived.party) (now_of waiting.now) arrived.party (arrival.0 + arrived.ahead.0) }
+    {
+        let party = arrived.party;
+        let late = refused(Cause::EligibleOutOfWindow, party, NO_HOP);
+        let eligible = eligible_from(arrival, arrived.ahead).ok_or(late)?;
+        if self.out_of_window(waiting.slot(), eligible) {
+            return Err(late);
+        }
+        if self.crowded(waiting, party, eligible) {
+            return Err(refused(Cause::TooSoon, party, NO_HOP));
+        }
+        Ok(Cell {
+            party,
+            label: arrived.label,
+            eligible,
+        })
+    }
+
     /// The trail once a cell has entered: its eligible slot is the latest, unless another is later.
-    pub fn entering(self, eligible: Slot) -> Trail
+    pub fn entering(mut self, eligible: Slot) -> Trail
         ensures spacing { result.spacing ≡ self.spacing }
         ensures lead { result.lead ≡ self.lead }
         ensures latest { elim self.latest [ None ↦ result.latest ≡ Some eligible | Some a ↦ result.latest ≡ (if ltb eligible.0 a.0 then Some a else Some eligible) ] }
         ensures last { result.last ≡ self.last }
     {
-        let latest = match self.latest {
-            Some(latest) if eligible < latest => latest,
-            _ => eligible,
-        };
-        Trail {
-            spacing: self.spacing,
-            lead: self.lead,
-            latest: Some(latest),
-            last: self.last,
-        }
+        self.latest = self.latest.max(Some(eligible));
+        self
     }
 
     /// The trail once a cell was taken in this slot from those that wait.
-    pub fn taking(self, slot: Slot) -> Trail
+    pub fn taking(mut self, slot: Slot) -> Trail
         ensures spacing { result.spacing ≡ self.spacing }
         ensures lead { result.lead ≡ self.lead }
         ensures latest { result.latest ≡ self.latest }
         ensures last { result.last ≡ Some slot }
     {
-        Trail {
-            spacing: self.spacing,
-            lead: self.lead,
-            latest: self.latest,
-            last: Some(slot),
-        }
+        self.last = Some(slot);
+        self
     }
 }

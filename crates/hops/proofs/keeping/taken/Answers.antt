@@ -1,16 +1,9 @@
-use Rattle.std.proofs.Common.{refl, ap}
-use Rattle.cells.specs.declared.times.Span.{Span}
-use Rattle.hops.proofs.Tables.{took_some}
+use Rattle.std.proofs.Common.{sym, ◌∙◌, rules}
+use Rattle.hops.proofs.Tables.{took_map, took_none}
 use Rattle.hops.proofs.keeping.taken.Goals as goal
 
-pub returns-in-Some-Some : goal.returns-in-Some-Some
-returns-in-Some-Some c =
-    let t = c.taking-crossed.ensures in
-    took_some c.args.label _ c.args.slot.0 c.args.crossing c.in-Some-Some.crossed _ c.in-Some-Some.is-0 c.in-Some-Some.is-1
-    (record {
-      same = record { spacing = ap (λ (s : Span). s.0) t.spacing; lead = ap (λ (s : Span). s.0) t.lead; bound = refl; constants = refl };
-      latest = t.latest;
-      slot = c.args.slot;
-      last = t.last;
-      now = refl;
-    })
+pub returns-then-is_some : goal.returns-then-is_some
+returns-then-is_some c = took_map _ c.args.label c.args.slot.0 _ c.map.result (sym c.is_some.ensures ∙ c.if-is_some.true) c.map.ensures.cases (λ x z h. search rules)
+
+pub returns-else-is_some : goal.returns-else-is_some
+returns-else-is_some c = took_none c.args.label _ _ (sym c.is_some.ensures ∙ c.if-is_some.false)

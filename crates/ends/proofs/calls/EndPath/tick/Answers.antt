@@ -18,7 +18,7 @@ invariant_of-self c =
     let low : n ≤ last_slot = search rules in
     let came = c.in-Some.ensures.answer in
     let notes : (p : ℕ) → Noted (trail_of x.trails p) (waiting_of x.waiting p n) n (trail_of c.deliver.new.self p) =
-    λ p. subst (λ d. Noted (trail_of x.trails p) d n (trail_of c.deliver.new.self p)) (came p) (subst (λ t. Noted (trail_of x.trails p) (get_or c.in-Some.row p None) t (trail_of c.deliver.new.self p)) c.slot-slot.ensures (c.deliver.ensures.trails p)) in
+    λ p. subst (λ d. Noted (trail_of x.trails p) d n (trail_of c.deliver.new.self p)) (came p) (subst (λ t. Noted (trail_of x.trails p) (get_or c.in-Some.row.entries p None) t (trail_of c.deliver.new.self p)) c.slot-slot.ensures (c.deliver.ensures.trails p)) in
     let v = end_ticked x c.next_day.new.self c.deliver.new.self ss low c.in-Some.ensures.slot c.in-Some.ensures.cells notes in
     record { tracked = v.tracked }
 
@@ -32,7 +32,7 @@ returns-in-Some c =
     let ok : tick_verdict r ≡ None = search rules in
     let came = c.in-Some.ensures.answer in
     let notes : (p : ℕ) → Noted (trail_of x.trails p) (waiting_of x.waiting p n) n (trail_of c.deliver.new.self p) =
-    λ p. subst (λ d. Noted (trail_of x.trails p) d n (trail_of c.deliver.new.self p)) (came p) (subst (λ t. Noted (trail_of x.trails p) (get_or c.in-Some.row p None) t (trail_of c.deliver.new.self p)) c.slot-slot.ensures (c.deliver.ensures.trails p)) in
+    λ p. subst (λ d. Noted (trail_of x.trails p) d n (trail_of c.deliver.new.self p)) (came p) (subst (λ t. Noted (trail_of x.trails p) (get_or c.in-Some.row.entries p None) t (trail_of c.deliver.new.self p)) c.slot-slot.ensures (c.deliver.ensures.trails p)) in
     let v = end_ticked x c.next_day.new.self c.deliver.new.self ss low c.in-Some.ensures.slot c.in-Some.ensures.cells notes in
     record {
       answer = ap answered (sym ok);

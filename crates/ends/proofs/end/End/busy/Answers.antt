@@ -1,17 +1,12 @@
-use Rattle.std.proofs.Common.{sym, arith}
-use Rattle.scheduler.proofs.Holds.{below_true, below_false}
+use Rattle.std.proofs.Common.{rules}
+use borrow.Author.Tests.{tests}
 use Rattle.calendar.specs.Days.{now_of}
+use Rattle.paths.proofs.Parties.{any_upto}
 use Rattle.ends.specs.Ends.{trail_of, still_in, still_any}
 use Rattle.ends.proofs.end.End.busy.Goals as goal
-
-pub returns-then-keeps : goal.returns-then-keeps
-unfolding still_any
-returns-then-keeps c =
-    let x = c.args.self.now in
-    sym (below_true 16 (λ q. still_in (trail_of x.trails q) (now_of x.waiting)) c.loop-party.party (omega arith) (sym c.if-keeps.ensures))
 
 pub returns : goal.returns
 unfolding still_any
 returns c =
     let x = c.args.self.now in
-    sym (below_false 16 (λ q. still_in (trail_of x.trails q) (now_of x.waiting)) (λ q h. c.loop-party.invariant q (omega arith)))
+    any_upto _ _ (λ p. still_in (trail_of x.trails p) (now_of x.waiting)) c.new.result 15 c.new.ensures.start c.new.ensures.end c.new.ensures.exhausted (λ p b h k. search (rules, tests)) c.any.result c.any.ensures.runs

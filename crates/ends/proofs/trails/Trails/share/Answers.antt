@@ -1,23 +1,20 @@
-use Rattle.std.proofs.Common.{◌≡◌, ℕ, ◌+◌, ap, ◌∙◌, add-one, arith, rules}
-use borrow.Author.Rules.{get_or_read}
-use Rattle.paths.specs.Verdicts.{share_of, shares, sum_below}
-use Rattle.ends.specs.Ends.{trail_of, terms_in}
+use Rattle.std.proofs.Common.{◌∙◌, None, arith, rules}
+use borrow.Author.Tests.{tests}
+use Rattle.std.proofs.lemmas.Iterator.{YieldsList-from_slice, YieldsList-from_map}
+use Rattle.std.proofs.lemmas.Iterator.Consumers.{sum_by_from_yields_List, fits_by_from_yields_list}
+use Rattle.paths.specs.Verdicts.{shares}
+use Rattle.paths.proofs.Parties.{sum_all}
+use Rattle.ends.proofs.Steps.{share_in, shares_few}
 use Rattle.ends.proofs.trails.Trails.share.Goals as goal
 
-pub loop-trail-preserved : goal.loop-trail-preserved
-loop-trail-preserved c =
-    let i = c.loop-trail.trail-index in
-    let f : ℕ → ℕ = λ q. share_of (terms_in (trail_of c.args.self.now q)) in
-    let one : sum_below (i + 1) f ≡ f i + sum_below i f = ap (λ n. sum_below n f) (add-one i) in
-    let before : c.loop-trail.sum ≡ sum_below i f = c.loop-trail.invariant.0 in
-    let here : c.share-sum.result ≡ f i = search (rules, get_or_read) in
-    let after : c.loop-trail.sum + c.share-sum.result ≡ sum_below (i + 1) f = omega arith in
-    (after, omega (arith, c.share-sum.ensures.few, c.loop-trail.invariant.1))
+pub sum-requires-clause-fits : goal.sum-requires-clause-fits
+sum-requires-clause-fits c =
+    let ts = c.args.self.now.parties in
+    fits_by_from_yields_list share_in ts c.map.result _ (YieldsList-from_map _ share_in (YieldsList-from_slice ts (cc)) c.map.ensures.closure (λ x r q k. search (rules, tests))) (omega (arith, shares_few ts c.args.self.now.whole))
 
 pub returns : goal.returns
 unfolding shares
 returns c =
-    let i = c.loop-trail.trail-index in
-    let f : ℕ → ℕ = λ q. share_of (terms_in (trail_of c.args.self.now q)) in
-    let all : i ≡ 16 = omega (arith, c.args.self.now.whole) in
-    record { value = c.loop-trail.invariant.0 ∙ ap (λ n. sum_below n f) all; few = omega arith }
+    let ts = c.args.self.now.parties in
+    let all = sum_by_from_yields_List share_in ts c.map.result _ c.sum.ensures.ran (YieldsList-from_map _ share_in (YieldsList-from_slice ts (cc)) c.map.ensures.closure (λ x r q k. search (rules, tests))) in
+    record { value = all ∙ sum_all share_in ts None 16 c.args.self.now.whole; few = omega (arith, all, shares_few ts c.args.self.now.whole) }

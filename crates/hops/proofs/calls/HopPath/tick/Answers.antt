@@ -43,7 +43,7 @@ send-sent-requires g c =
     let m = g.S.Scheduler.meaning a in
     let xs = crossings_of c.admit.new.crossings in
     let hon : Honest m = record { timely = g.met.S.Scheduler.timely a; contracted = g.met.S.Scheduler.contracted a; ranged = g.met.S.Scheduler.ranged a; past = g.met.S.Scheduler.past a } in
-    let served = told_ok_is (serve_verdict m) 255 c.in-Ok.served (g.S.Scheduler.choice a) (sym c.in-Ok.is ∙ c.serve.ensures.answer) in
+    let served = told_ok_is (serve_verdict m) 255 c.unwrap-served.result (g.S.Scheduler.choice a) (sym c.unwrap-served.ensures ∙ c.serve.ensures.answer) in
     record {
       link = h.short;
       ready = λ cell e. (
@@ -73,20 +73,20 @@ invariant_of-self-2-clause-sound g c =
     let m = g.S.Scheduler.meaning a in
     let xs = crossings_of c.admit.new.crossings in
     let hon : Honest m = record { timely = g.met.S.Scheduler.timely a; contracted = g.met.S.Scheduler.contracted a; ranged = g.met.S.Scheduler.ranged a; past = g.met.S.Scheduler.past a } in
-    let served = told_ok_is (serve_verdict m) 255 c.in-Ok.served (g.S.Scheduler.choice a) (sym c.in-Ok.is ∙ c.serve.ensures.answer) in
+    let served = told_ok_is (serve_verdict m) 255 c.unwrap-served.result (g.S.Scheduler.choice a) (sym c.unwrap-served.ensures ∙ c.serve.ensures.answer) in
     let t = c.serve.new.self in
     let hon' : Honest (g.S.Scheduler.meaning t) = record { timely = g.met.S.Scheduler.timely t; contracted = g.met.S.Scheduler.contracted t; ranged = g.met.S.Scheduler.ranged t; past = g.met.S.Scheduler.past t } in
-    let chosen : Chosen m c.in-Ok.served = subst (Chosen m) (sym served.0) (g.met.S.Scheduler.chosen a) in
-    let stepped-is : g.S.Scheduler.meaning t ≡ stepped m c.in-Ok.served = c.serve.ensures.becomes ∙ ap (λ v. after v m (stepped m (g.S.Scheduler.choice a))) served.1 ∙ ap (stepped m) (sym served.0) in
+    let chosen : Chosen m c.unwrap-served.result = subst (Chosen m) (sym served.0) (g.met.S.Scheduler.chosen a) in
+    let stepped-is : g.S.Scheduler.meaning t ≡ stepped m c.unwrap-served.result = c.serve.ensures.becomes ∙ ap (λ v. after v m (stepped m (g.S.Scheduler.choice a))) served.1 ∙ ap (stepped m) (sym served.0) in
     let b' = c.send-sent.new.behind in
-    let handed : Handed xs h.link.0 (now_of h.waiting) c.in-Ok.served c.send-sent.result b (g.P.Path.route b') =
-    subst (λ n. Handed xs h.link.0 n c.in-Ok.served c.send-sent.result b (g.P.Path.route b')) c.slot-slot.ensures c.send-sent.ensures in
+    let handed : Handed xs h.link.0 (now_of h.waiting) c.unwrap-served.result c.send-sent.result b (g.P.Path.route b') =
+    subst (λ n. Handed xs h.link.0 n c.unwrap-served.result c.send-sent.result b (g.P.Path.route b')) c.slot-slot.ensures c.send-sent.ensures in
     let within : h.number < length ss = omega (arith, s.level.lawful.hops) in
     let q = c.admit.new.waiting in
     let z = parts h.number h.link.0 (g.S.Scheduler.meaning t) (waiting_of q) xs (g.P.Path.route b') in
     let w : Final k (now_of h.waiting) s lb le c.args.sends.now ss b b-is m c.admit.ensures.sched hon xs c.admit.ensures.crossings z (now_of q) (set ss h.number c.send-sent.result) =
     final k (now_of h.waiting) s lb le c.args.sends.now ss b b-is m c.admit.ensures.sched hon xs c.admit.ensures.crossings
-    (subst (λ v. Sends v k.behind c.args.sends.now ss) ok c.tick.ensures.sends) (waiting_of q) c.admit.ensures.waits c.in-Ok.served chosen (g.S.Scheduler.meaning t) stepped-is hon'
+    (subst (λ v. Sends v k.behind c.args.sends.now ss) ok c.tick.ensures.sends) (waiting_of q) c.admit.ensures.waits c.unwrap-served.result chosen (g.S.Scheduler.meaning t) stepped-is hon'
     c.send-sent.result (g.P.Path.route b') handed (g.met.P.Path.lawful b') (now_of q) c.admit.ensures.day within in
     ∣ w.sound ∣₁
 
@@ -105,20 +105,20 @@ returns g c =
     let m = g.S.Scheduler.meaning a in
     let xs = crossings_of c.admit.new.crossings in
     let hon : Honest m = record { timely = g.met.S.Scheduler.timely a; contracted = g.met.S.Scheduler.contracted a; ranged = g.met.S.Scheduler.ranged a; past = g.met.S.Scheduler.past a } in
-    let served = told_ok_is (serve_verdict m) 255 c.in-Ok.served (g.S.Scheduler.choice a) (sym c.in-Ok.is ∙ c.serve.ensures.answer) in
+    let served = told_ok_is (serve_verdict m) 255 c.unwrap-served.result (g.S.Scheduler.choice a) (sym c.unwrap-served.ensures ∙ c.serve.ensures.answer) in
     let t = c.serve.new.self in
     let hon' : Honest (g.S.Scheduler.meaning t) = record { timely = g.met.S.Scheduler.timely t; contracted = g.met.S.Scheduler.contracted t; ranged = g.met.S.Scheduler.ranged t; past = g.met.S.Scheduler.past t } in
-    let chosen : Chosen m c.in-Ok.served = subst (Chosen m) (sym served.0) (g.met.S.Scheduler.chosen a) in
-    let stepped-is : g.S.Scheduler.meaning t ≡ stepped m c.in-Ok.served = c.serve.ensures.becomes ∙ ap (λ v. after v m (stepped m (g.S.Scheduler.choice a))) served.1 ∙ ap (stepped m) (sym served.0) in
+    let chosen : Chosen m c.unwrap-served.result = subst (Chosen m) (sym served.0) (g.met.S.Scheduler.chosen a) in
+    let stepped-is : g.S.Scheduler.meaning t ≡ stepped m c.unwrap-served.result = c.serve.ensures.becomes ∙ ap (λ v. after v m (stepped m (g.S.Scheduler.choice a))) served.1 ∙ ap (stepped m) (sym served.0) in
     let b' = c.send-sent.new.behind in
-    let handed : Handed xs h.link.0 (now_of h.waiting) c.in-Ok.served c.send-sent.result b (g.P.Path.route b') =
-    subst (λ n. Handed xs h.link.0 n c.in-Ok.served c.send-sent.result b (g.P.Path.route b')) c.slot-slot.ensures c.send-sent.ensures in
+    let handed : Handed xs h.link.0 (now_of h.waiting) c.unwrap-served.result c.send-sent.result b (g.P.Path.route b') =
+    subst (λ n. Handed xs h.link.0 n c.unwrap-served.result c.send-sent.result b (g.P.Path.route b')) c.slot-slot.ensures c.send-sent.ensures in
     let within : h.number < length ss = omega (arith, s.level.lawful.hops) in
     let q = c.admit.new.waiting in
     let z = parts h.number h.link.0 (g.S.Scheduler.meaning t) (waiting_of q) xs (g.P.Path.route b') in
     let w : Final k (now_of h.waiting) s lb le c.args.sends.now ss b b-is m c.admit.ensures.sched hon xs c.admit.ensures.crossings z (now_of q) (set ss h.number c.send-sent.result) =
     final k (now_of h.waiting) s lb le c.args.sends.now ss b b-is m c.admit.ensures.sched hon xs c.admit.ensures.crossings
-    (subst (λ v. Sends v k.behind c.args.sends.now ss) ok c.tick.ensures.sends) (waiting_of q) c.admit.ensures.waits c.in-Ok.served chosen (g.S.Scheduler.meaning t) stepped-is hon'
+    (subst (λ v. Sends v k.behind c.args.sends.now ss) ok c.tick.ensures.sends) (waiting_of q) c.admit.ensures.waits c.unwrap-served.result chosen (g.S.Scheduler.meaning t) stepped-is hon'
     c.send-sent.result (g.P.Path.route b') handed (g.met.P.Path.lawful b') (now_of q) c.admit.ensures.day within in
     let zs = c.note.new.sends in
     let table : set ss h.number c.send-sent.result ≡ zs = sym c.note.ensures in

@@ -1,16 +1,19 @@
-use Rattle.std.proofs.Common.{◌≡◌, suc, ◌+◌, ◌<◌, length, None, ap, ◌∙◌, arith}
-use Rattle.paths.specs.Verdicts.{sum_below}
-use Rattle.hops.specs.Crossed.{crossings_of, crossing_load}
-use Rattle.std.proofs.lemmas.List.{get_or_default}
+use Rattle.std.proofs.Common.{◌∙◌, None, arith, rules}
+use borrow.Author.Tests.{tests}
+use Rattle.std.proofs.lemmas.Iterator.{YieldsList-from_slice, YieldsList-from_map}
+use Rattle.std.proofs.lemmas.Iterator.Consumers.{sum_by_from_yields_List, fits_by_from_yields_list}
+use Rattle.paths.proofs.Parties.{sum_all}
+use Rattle.hops.specs.Crossed.{crossing_load}
+use Rattle.hops.proofs.Tables.{loads_few}
 use Rattle.hops.proofs.crossings.Crossings.load.Goals as goal
 
-pub loop-party-preserved : goal.loop-party-preserved
-loop-party-preserved c =
-    let i = c.loop-party.party in
+pub sum-requires-clause-fits : goal.sum-requires-clause-fits
+sum-requires-clause-fits c =
     let xs = c.args.self.now.parties in
-    let within : i < length xs = omega (arith, c.args.self.now.whole) in
-    let at = c.load_of-sum.ensures.value ∙ ap crossing_load (get_or_default xs i c.index-self-party.result None within) in
-    let one : suc i ≡ i + 1 = omega arith in (
-      omega (arith, c.loop-party.invariant.0, at) ∙ ap (λ n. sum_below n (λ q. crossing_load (crossings_of c.args.self.now q))) one,
-      omega (arith, c.loop-party.invariant.1, c.load_of-sum.ensures.few),
-    )
+    fits_by_from_yields_list crossing_load xs c.map.result _ (YieldsList-from_map _ crossing_load (YieldsList-from_slice xs (cc)) c.map.ensures.closure (λ x r q k. search (rules, tests))) (omega (arith, loads_few xs c.args.self.now.whole))
+
+pub returns : goal.returns
+returns c =
+    let xs = c.args.self.now.parties in
+    let all = sum_by_from_yields_List crossing_load xs c.map.result _ c.sum.ensures.ran (YieldsList-from_map _ crossing_load (YieldsList-from_slice xs (cc)) c.map.ensures.closure (λ x r q k. search (rules, tests))) in
+    record { value = all ∙ sum_all crossing_load xs None 16 c.args.self.now.whole; few = omega (arith, all, loads_few xs c.args.self.now.whole) }
