@@ -99,8 +99,8 @@ withdrawal (Some t) true p e = absurd (none_some e refl)
 withdrawal (Some t) false p e = refl
 
 -- one trail that is written
-pub trails_set : (t u : Trails) (p : ℕ) (o : Option Trail) → p < 16 → u.parties ≡ set t.parties p o → trail_of u ≡ updated (trail_of t) p o
-trails_set t u p o h e = ap (λ xs q. get_or xs q None) e ∙ table-set (λ o. o) t.parties p o None (omega (arith, t.whole))
+pub trails_set : (t u : Trails) (p : ℕ) (o : Option Trail) → p < 16 → u.parties.entries ≡ set t.parties.entries p o → trail_of u ≡ updated (trail_of t) p o
+trails_set t u p o h e = ap (λ xs q. get_or xs q None) e ∙ table-set (λ o. o) t.parties.entries p o None (omega (arith, t.parties.whole))
 
 -- what parts mean, and that they can be those of an end
 pub record Becomes (z : Route) (us : ℕ → Option Trail) (r : Route) : Type 0 where
@@ -117,14 +117,14 @@ blank (suc n) zero = refl
 blank (suc n) (suc p) = blank n p
 
 -- an end that was just made
-pub end_fresh : (k : ℕ) (q : Calendar) (u : Trails) → k ≤ 8 → now_of q ≡ 0 → waiting_of q ≡ (λ p e. None) → u.parties ≡ replicate 16 None
+pub end_fresh : (k : ℕ) (q : Calendar) (u : Trails) → k ≤ 8 → now_of q ≡ 0 → waiting_of q ≡ (λ p e. None) → u.parties.entries ≡ replicate 16 None
     → Becomes (route_of (now_of q) k (trail_of u) (waiting_of q)) (trail_of u) (fresh k [])
 end_fresh k q u few slot waits none =
     let trails : trail_of u ≡ (λ p. None) = fun_ext (λ p. ap (λ (xs : List (Option Trail)). get_or xs p None) none ∙ blank 16 p) in
     becomes (λ i. route_of (slot i) k (trails i) (waits i)) trails (tracked_fresh k few)
 
 -- an end with another contract
-pub end_granted : (x : End) (p s lead : ℕ) (bs : List Span) (y : Trail) (u : Trails) → u.parties ≡ set x.trails.parties p (Some y)
+pub end_granted : (x : End) (p s lead : ℕ) (bs : List Span) (y : Trail) (u : Trails) → u.parties.entries ≡ set x.trails.parties.entries p (Some y)
     → y.spacing.0 ≡ s → y.lead.0 ≡ lead → y.latest ≡ None → y.last ≡ None → grant_rule (end_route x) p s bs lead None ≡ None
     → Becomes (route_of (now_of x.waiting) x.first (trail_of u) (waiting_of x.waiting)) (trail_of u) (granted (end_route x) p s bs lead)
 end_granted x p s lead bs y u written spaces leads latest last rule =
@@ -136,7 +136,7 @@ end_granted x p s lead bs y u written spaces leads latest last rule =
     (tracked_granted n x.first ts w (tracked_of x) p s lead bs y spaces leads latest last rule)
 
 -- with one less
-pub end_withdrawn : (x : End) (p : ℕ) (u : Trails) → p < 16 → u.parties ≡ set x.trails.parties p None → holds_of (end_route x) p ≡ false
+pub end_withdrawn : (x : End) (p : ℕ) (u : Trails) → p < 16 → u.parties.entries ≡ set x.trails.parties.entries p None → holds_of (end_route x) p ≡ false
     → Becomes (route_of (now_of x.waiting) x.first (trail_of u) (waiting_of x.waiting)) (trail_of u) (withdrawn (end_route x) p)
 end_withdrawn x p u low written none =
     let n = now_of x.waiting in
@@ -154,7 +154,7 @@ pub end_arrived : (x : End) (p e l : ℕ) (y z : Trail) (d : Slot) (q : Calendar
     → trail_of x.trails p ≡ Some y → arrival_by y (waiting_of x.waiting p) (now_of x.waiting) p e ≡ None
     → z.spacing ≡ y.spacing → z.lead ≡ y.lead → z.last ≡ y.last → Later y.latest d z.latest → now_of q ≡ now_of x.waiting
     → waiting_of q ≡ cond (room (now_of x.waiting) p d.0) (updated (waiting_of x.waiting) p (updated (waiting_of x.waiting p) d.0 (Some l))) (waiting_of x.waiting)
-    → u.parties ≡ set x.trails.parties p (Some z) → Arrived x p e l q u
+    → u.parties.entries ≡ set x.trails.parties.entries p (Some z) → Arrived x p e l q u
 end_arrived x p e l y z d q u low at has clear spacing lead last latest slot cells written =
     let r = end_route x in
     let n = now_of x.waiting in

@@ -10,7 +10,7 @@ use Rattle.ends.specs.declared.trails.Trails.{Trails}
 
 -- the trail of each party, none past the table
 abbrev pub trail_of : Trails → ℕ → Option Trail
-trail_of x p = slice_index_or x.parties p None
+trail_of x p = slice_index_or x.parties.entries p None
 
 -- the number of a slot, if there is one
 abbrev pub number_in : Option Slot → Option ℕ

@@ -8,7 +8,6 @@ ghost use Rattle.ends.specs.Ends.{trail_of, terms_in};
 
 use crate::trails::Trails;
 use cells::faults::{Cause, Fault, NO_HOP};
-use cells::limits::LAST_PARTY;
 use paths::checks::refused;
 use paths::trail::Trail;
 
@@ -26,10 +25,7 @@ impl Trails {
         ensures value { result ≡ trail_of self.now party }
         ensures within { is_some result ≡ true → party < 16 }
     {
-        if party > LAST_PARTY {
-            return None;
-        }
-        self.parties[party as usize]
+        self.parties.get(party)
     }
 
     /// The trail of a party, which is refused if it has none.
@@ -46,6 +42,6 @@ impl Trails {
         ensures value { result ≡ shares share_of (λ q. terms_in (trail_of self.now q)) }
         ensures few { result ≤ 3056 }
     {
-        self.parties.iter().map(|trail| share(*trail)).sum()
+        self.parties.entries().iter().map(|trail| share(*trail)).sum()
     }
 }

@@ -1,13 +1,11 @@
 //! The trails of the parties at the end.
 
-ghost use Rattle.std.specs.Prelude.{◌≡◌, length};
-
+use cells::parties::ByParty;
 use paths::trail::Trail;
 
 /// Of each party with a contract the trail of its cells; the last that was taken is the last
 /// delivery.
 #[derive(Clone, Copy)]
 pub struct Trails {
-    pub(crate) parties: [Option<Trail>; 16],
-    ghost whole: { length parties ≡ 16 },
+    pub(crate) parties: ByParty<Trail>,
 }

@@ -7,7 +7,7 @@ use Rattle.hops.specs.declared.crossings.Crossings.{Crossings}
 
 -- how each party crosses
 abbrev pub crossings_of : Crossings → ℕ → Option Crossing
-crossings_of c p = slice_index_or c.parties p None
+crossings_of c p = slice_index_or c.parties.entries p None
 
 -- how many cells of it can wait at once
 abbrev pub crossing_load : Option Crossing → ℕ

@@ -7,7 +7,6 @@ ghost use Rattle.hops.specs.Crossed.{crossings_of, crossing_load, Took};
 
 use crate::crossing::Crossing;
 use crate::crossings::Crossings;
-use cells::limits::LAST_PARTY;
 use cells::parties::ByParty;
 use cells::times::Slot;
 
@@ -17,7 +16,7 @@ impl Crossings {
         ensures { crossings_of result ≡ (λ p. None) }
     {
         Crossings {
-            parties: [None; 16],
+            parties: ByParty::new(),
         }
     }
 
@@ -26,10 +25,7 @@ impl Crossings {
         ensures value { result ≡ crossings_of self.now party }
         ensures within { is_some result ≡ true → party < 16 }
     {
-        if party > LAST_PARTY {
-            return None;
-        }
-        self.parties[party as usize]
+        self.parties.get(party)
     }
 
     /// Notes how a party crosses, or that it does not.
@@ -37,7 +33,7 @@ impl Crossings {
         requires { party < 16 }
         ensures { crossings_of self.new ≡ updated (crossings_of self.old) party crossing }
     {
-        self.parties[party as usize] = crossing;
+        self.parties.set(party, crossing);
     }
 
     /// How many cells can wait at once.
@@ -45,7 +41,11 @@ impl Crossings {
         ensures value { result ≡ sum_below 16 (λ q. crossing_load (crossings_of self.now q)) }
         ensures few { result ≤ 3056 }
     {
-        self.parties.iter().map(|crossing| load_of(*crossing)).sum()
+        self.parties
+            .entries()
+            .iter()
+            .map(|crossing| load_of(*crossing))
+            .sum()
     }
 
     /// Notes that the cells of these parties were taken in a slot, to be sent.
@@ -54,7 +54,9 @@ impl Crossings {
     {
         // by index: of a table written through `iter_mut` and `zip` the proof keeps nothing
         for (party, label) in row.entries().iter().enumerate() {
-            self.parties[party] = taken(*label, self.parties[party], slot);
+            let party = party as u8;
+            let crossing = taken(*label, self.parties.get(party), slot);
+            self.parties.set(party, crossing);
         }
     }
 }

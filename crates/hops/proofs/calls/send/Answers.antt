@@ -52,6 +52,6 @@ returns g c =
     let x = c.unwrap-crossing.result in
     let cell = c.in_ok-cell.cell in
     let at : c.arrival_of.result.0 + c.header_of-header.result.ahead.0 ≡ cell.eligible.0 + x.bound.0 + c.args.link.0 = omega (arith, h.ahead, c.arrival_of.ensures, x.bounded) in
-    handed_some (λ p. get_or c.args.crossings.now.parties p None) c.args.link.0 c.args.slot.0 c.args.served cell x c.header_of-header.result b (g.P.Path.route c.forward.new.behind)
+    handed_some (λ p. get_or c.args.crossings.now.parties.entries p None) c.args.link.0 c.args.slot.0 c.args.served cell x c.header_of-header.result b (g.P.Path.route c.forward.new.behind)
     c.in_ok-cell.was (sym c.of.ensures.value ∙ c.unwrap-crossing.ensures) (record { party = h.party; ahead = h.ahead; label = h.label })
     (c.forward.ensures ∙ (λ i. entered b (h.party i) (at i) (h.label i)))

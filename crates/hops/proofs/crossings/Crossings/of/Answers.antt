@@ -4,6 +4,6 @@ use Rattle.hops.proofs.crossings.Crossings.of.Goals as goal
 
 pub returns-then-party-gt-LAST_PARTY : goal.returns-then-party-gt-LAST_PARTY
 returns-then-party-gt-LAST_PARTY c =
-    let past : length c.args.self.now.parties ≤ c.args.party = omega (arith, c.args.self.now.whole) in
-    let none = get_or_past c.args.self.now.parties c.args.party None past in
+    let past : length c.args.self.now.parties.entries ≤ c.args.party = omega (arith, c.args.self.now.parties.whole) in
+    let none = get_or_past c.args.self.now.parties.entries c.args.party None past in
     search rules
