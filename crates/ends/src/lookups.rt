@@ -42,6 +42,10 @@ impl Trails {
         ensures value { result ≡ shares share_of (λ q. terms_in (trail_of self.now q)) }
         ensures few { result ≤ 3056 }
     {
-        self.parties.entries().iter().map(|trail| share(*trail)).sum()
+        self.parties
+            .entries()
+            .iter()
+            .map(|trail| share(*trail))
+            .sum()
     }
 }

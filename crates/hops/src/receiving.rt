@@ -42,12 +42,7 @@ impl Crossing {
 }
 
 // The scheduler takes a cell that is eligible now; `crossing` has noted it.
-fn hold<S: Scheduler>(
-    scheduler: &mut S,
-    crossings: &mut Crossings,
-    cell: Cell,
-    crossing: Crossing,
-)
+fn hold<S: Scheduler>(scheduler: &mut S, crossings: &mut Crossings, cell: Cell, crossing: Crossing)
     requires party { cell.party < 16 }
     requires consent { put_verdict (S.Scheduler.meaning scheduler.old) cell.party ≡ None }
     ensures sched { S.Scheduler.meaning scheduler.new ≡ filled (S.Scheduler.meaning scheduler.old) cell.party cell.label }

@@ -113,8 +113,9 @@ fn ticks<P: Path>(rt: &HostRuntime, path: &mut P, slots: u32) -> anyhow::Result<
 
 /// The eight bounds that the first of these words write.
 fn bounds_of(words: &[&str]) -> anyhow::Result<[Span; 8]> {
-    <[&str; 8]>::try_from(words.get(..8).context("eight bounds are wanted")?)?
-        .try_map(|word| -> anyhow::Result<Span> { Ok(Span(word.parse()?)) })
+    <[&str; 8]>::try_from(words.get(..8).context("eight bounds are wanted")?)?.try_map(
+        |word| -> anyhow::Result<Span> { Ok(Span(word.parse()?)) },
+    )
 }
 
 /// The bytes that these words write.
