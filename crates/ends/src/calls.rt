@@ -12,6 +12,7 @@ use crate::trails::Trails;
 use calendar::grid::Calendar;
 use cells::faults::{Cause, Fault, NO_HOP, NO_PARTY};
 use cells::limits::LAST;
+use cells::parties::ByParty;
 use cells::times::{Slot, Span};
 use header::Header;
 use paths::Path;
@@ -36,7 +37,9 @@ impl End {
         End {
             first,
             waiting: Calendar::new(),
-            trails: Trails::new(),
+            trails: Trails {
+                parties: ByParty::new(),
+            },
         }
     }
 }
@@ -58,7 +61,7 @@ impl Path for End {
 
     /// No hop lies before the end, so a cell leaves in its eligible slot.
     fn constant(&self, party: u8) -> Option<Span> {
-        self.trails.trail(party).map(|_| Span(0))
+        self.trails.parties.get(party).map(|_| Span(0))
     }
 
     fn holds(&self, party: u8) -> bool {
@@ -73,18 +76,18 @@ impl Path for End {
         bounds: &[Span; 8],
         lead: Span,
     ) -> Result<(), Fault> {
-        let known = self.trails.trail(party).is_some();
+        let known = self.trails.parties.get(party).is_some();
         let bad = bad_hop(self.first, 0, bounds, lead);
         check_terms(party, known, spacing, bad, self.busy())?;
         let trail = Trail::new(spacing, lead).unwrap();
         trail.check_room(self.trails.share(), party, END)?;
-        self.trails.keep(party, trail);
+        self.trails.parties.set(party, Some(trail));
         Ok(())
     }
 
     fn withdraw(&mut self, party: u8) -> Result<(), Fault> {
         self.check_withdrawal(party)?;
-        self.trails.forget(party);
+        self.trails.parties.set(party, None);
         Ok(())
     }
 
@@ -94,7 +97,8 @@ impl Path for End {
         let trail = self.trails.contract(arrived.party)?;
         let cell = trail.check_arrival(&self.waiting, arrived, arrival)?;
         let _ = self.waiting.put(cell.party, cell.eligible, cell.label);
-        self.trails.keep(cell.party, trail.entering(cell.eligible));
+        let entered = trail.entering(cell.eligible);
+        self.trails.parties.set(cell.party, Some(entered));
         Ok(())
     }
 

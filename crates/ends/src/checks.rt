@@ -17,7 +17,8 @@ impl End {
         ensures { result ≡ still_in (trail_of self.now.trails party) (now_of self.now.waiting) }
     {
         self.trails
-            .trail(party)
+            .parties
+            .get(party)
             .is_some_and(|trail| trail.still_on(Span(0), self.waiting.slot()))
     }
 

@@ -29,8 +29,8 @@ impl Trails {
         ensures terms { (l : ℕ) → terms_in (trail_of self.new party) ≡ noted (terms_in (trail_of self.old party)) (Some l) slot.0 }
         ensures latest { latest_in (trail_of self.new party) ≡ latest_in (trail_of self.old party) }
     {
-        if let Some(trail) = self.trail(party) {
-            self.keep(party, trail.taking(slot));
+        if let Some(trail) = self.parties.get(party) {
+            self.parties.set(party, Some(trail.taking(slot)));
         }
     }
 

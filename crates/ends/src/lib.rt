@@ -5,6 +5,5 @@ pub mod calls;
 mod checks;
 mod delivery;
 pub mod end;
-mod keeping;
 mod lookups;
 pub mod trails;

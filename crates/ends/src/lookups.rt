@@ -1,6 +1,6 @@
 //! What the trails say.
 
-ghost use Rattle.std.specs.Prelude.{◌≡◌, ◌<◌, ◌≤◌, true, is_some, is_ok};
+ghost use Rattle.std.specs.Prelude.{◌≡◌, ◌<◌, ◌≤◌, true, is_ok};
 ghost use Rattle.std.specs.Option.{ok_or};
 ghost use Rattle.cells.specs.declared.faults.Cause.TheVariants.{NoContract};
 ghost use Rattle.paths.specs.Verdicts.{fault, share_of, shares};
@@ -20,20 +20,13 @@ fn share(trail: Option<Trail>) -> u32
 }
 
 impl Trails {
-    /// The trail of a party; none of a party above 15.
-    pub(crate) fn trail(&self, party: u8) -> Option<Trail>
-        ensures value { result ≡ trail_of self.now party }
-        ensures within { is_some result ≡ true → party < 16 }
-    {
-        self.parties.get(party)
-    }
-
     /// The trail of a party, which is refused if it has none.
     pub(crate) fn contract(&self, party: u8) -> Result<Trail, Fault>
         ensures value { result ≡ ok_or (trail_of self.now party) (fault NoContract party 255) }
         ensures within { is_ok result ≡ true → party < 16 }
     {
-        self.trail(party)
+        self.parties
+            .get(party)
             .ok_or(refused(Cause::NoContract, party, NO_HOP))
     }
 

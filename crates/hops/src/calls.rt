@@ -58,7 +58,7 @@ fn send<P: Path>(
     ensures { Handed (crossings_of crossings.now) link.0 slot.0 served result (P.Path.route behind.old) (P.Path.route behind.new) }
 {
     let cell = served?;
-    let crossing = crossings.of(cell.party).unwrap();
+    let crossing = crossings.parties.get(cell.party).unwrap();
     let header = crossing.header_of(cell, slot);
     forward(behind, header, arrival_of(slot, link));
     Some(header)
@@ -69,7 +69,7 @@ impl<S: Scheduler, P: Path> Hop<S, P> {
     fn holds_cell(&self, party: u8) -> bool
         ensures { result ≡ holds_of (hop_route S.Scheduler.meaning P.Path.route self.now) party }
     {
-        self.crossings.of(party).map_or_else(
+        self.crossings.parties.get(party).map_or_else(
             || self.behind.holds(party),
             |crossing| {
                 crossing
@@ -120,7 +120,8 @@ impl<S: Scheduler, P: Path> Path for Hop<S, P> {
 
     fn constant(&self, party: u8) -> Option<Span> {
         self.crossings
-            .of(party)
+            .parties
+            .get(party)
             .map(|crossing| crossing.constant)
             .or_else(|| self.behind.constant(party))
     }
@@ -148,7 +149,7 @@ impl<S: Scheduler, P: Path> Path for Hop<S, P> {
     }
 
     fn withdraw(&mut self, party: u8) -> Result<(), Fault> {
-        if self.crossings.of(party).is_some() {
+        if self.crossings.parties.get(party).is_some() {
             self.uncross(party)
         } else {
             self.behind.withdraw(party)
@@ -158,7 +159,7 @@ impl<S: Scheduler, P: Path> Path for Hop<S, P> {
     fn enter(&mut self, header: &[u8], arrival: Slot) -> Result<(), Fault> {
         let arrived = Header::read(header)?;
         // no `map_or_else`: both arms borrow the hop mutably
-        match self.crossings.of(arrived.party) {
+        match self.crossings.parties.get(arrived.party) {
             Some(crossing) => self.receive(crossing, arrived, arrival),
             None => self.behind.enter(header, arrival),
         }

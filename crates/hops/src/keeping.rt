@@ -1,6 +1,6 @@
 //! How the crossings of a hop are kept.
 
-ghost use Rattle.std.specs.Prelude.{◌≡◌, ℕ, ◌<◌, ◌≤◌, true, length, is_some, Some, None, slice_index_or};
+ghost use Rattle.std.specs.Prelude.{◌≡◌, ℕ, ◌<◌, ◌≤◌, None, slice_index_or};
 ghost use Rattle.scheduler.specs.Meaning.{updated};
 ghost use Rattle.paths.specs.Verdicts.{sum_below};
 ghost use Rattle.hops.specs.Crossed.{crossings_of, crossing_load, Took};
@@ -18,14 +18,6 @@ impl Crossings {
         Crossings {
             parties: ByParty::new(),
         }
-    }
-
-    /// How a party crosses.
-    pub(crate) fn of(&self, party: u8) -> Option<Crossing>
-        ensures value { result ≡ crossings_of self.now party }
-        ensures within { is_some result ≡ true → party < 16 }
-    {
-        self.parties.get(party)
     }
 
     /// Notes how a party crosses, or that it does not.
@@ -52,7 +44,6 @@ impl Crossings {
     pub(crate) fn take_row(&mut self, row: &ByParty<u32>, slot: Slot)
         ensures { (p : ℕ) → Took (slice_index_or row.now.entries p None) slot.0 (crossings_of self.old p) (crossings_of self.new p) }
     {
-        // by index: of a table written through `iter_mut` and `zip` the proof keeps nothing
         for (party, label) in row.entries().iter().enumerate() {
             let party = party as u8;
             let crossing = taken(*label, self.parties.get(party), slot);

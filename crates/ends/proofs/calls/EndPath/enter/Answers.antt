@@ -59,11 +59,11 @@ invariant_of-self c =
     let k = c.in_ok-cell.cell in
     let is = c.in_ok-cell.ensures.cell in
     let y = c.in_ok-trail.trail in
-    let z = c.entering.ensures in
+    let z = c.entering-entered.ensures in
     let e = c.args.arrival.0 + c.in_ok-arrived.arrived.ahead.0 in
     let has = trail_ok _ _ y c.in_ok-trail.ensures.value in
-    let v = end_arrived x k.party e k.label y c.entering.result k.eligible c.put.new.self c.keep.new.self (search rules) is.1 (ap (trail_of x.trails) is.0 ∙ has) (ap (λ (p : ℕ). arrival_by y (waiting_of x.waiting p) (now_of x.waiting) p e) is.0 ∙ sym c.in_ok-cell.ensures.verdict)
-    z.spacing z.lead z.last z.latest c.put.ensures.slot c.put.ensures.cells c.keep.ensures in
+    let v = end_arrived x k.party e k.label y c.entering-entered.result k.eligible c.put.new.self (record { parties = c.set.new.self }) (search rules) is.1 (ap (trail_of x.trails) is.0 ∙ has) (ap (λ (p : ℕ). arrival_by y (waiting_of x.waiting p) (now_of x.waiting) p e) is.0 ∙ sym c.in_ok-cell.ensures.verdict)
+    z.spacing z.lead z.last z.latest c.put.ensures.slot c.put.ensures.cells c.set.ensures in
     record { tracked = v.after.tracked }
 
 pub returns : goal.returns
@@ -75,11 +75,11 @@ returns c =
     let k = c.in_ok-cell.cell in
     let is = c.in_ok-cell.ensures.cell in
     let y = c.in_ok-trail.trail in
-    let z = c.entering.ensures in
+    let z = c.entering-entered.ensures in
     let e = a + c.in_ok-arrived.arrived.ahead.0 in
     let has = trail_ok _ _ y c.in_ok-trail.ensures.value in
-    let v = end_arrived x k.party e k.label y c.entering.result k.eligible c.put.new.self c.keep.new.self (search rules) is.1 (ap (trail_of x.trails) is.0 ∙ has) (ap (λ (p : ℕ). arrival_by y (waiting_of x.waiting p) (now_of x.waiting) p e) is.0 ∙ sym c.in_ok-cell.ensures.verdict)
-    z.spacing z.lead z.last z.latest c.put.ensures.slot c.put.ensures.cells c.keep.ensures in
+    let v = end_arrived x k.party e k.label y c.entering-entered.result k.eligible c.put.new.self (record { parties = c.set.new.self }) (search rules) is.1 (ap (trail_of x.trails) is.0 ∙ has) (ap (λ (p : ℕ). arrival_by y (waiting_of x.waiting p) (now_of x.waiting) p e) is.0 ∙ sym c.in_ok-cell.ensures.verdict)
+    z.spacing z.lead z.last z.latest c.put.ensures.slot c.put.ensures.cells c.set.ensures in
     let all : enter_verdict r c.args.header.now a ≡ None = read at.After-contract ∙ by_trail at.After-check_arrival ∙ ap result_err c.in_ok-cell.was in
     record {
       answer = ap answered (sym all);

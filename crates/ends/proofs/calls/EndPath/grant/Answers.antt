@@ -18,7 +18,7 @@ returns-in_err-check_terms c =
     let bs = c.args.bounds.now in
     let lead = c.args.lead.0 in
     let f = c.in_err-check_terms.field-0.0 in
-    let by = rule_by x p s lead bs c.is_some-known.result c.bad_hop-bad.result c.busy.result (c.is_some-known.ensures ∙ ap is_some c.trail.ensures.value) (c.bad_hop-bad.ensures [] refl) c.busy.ensures in
+    let by = rule_by x p s lead bs c.is_some-known.result c.bad_hop-bad.result c.busy.result (c.is_some-known.ensures ∙ ap is_some c.get.ensures.value) (c.bad_hop-bad.ensures [] refl) c.busy.ensures in
     let rule : grant_rule r p s bs lead None ≡ Some f = sym by ∙ answered_err _ f c.in_err-check_terms.ensures in
     let all : grant_verdict r [] p s bs lead ≡ Some f = verdict_by x p s lead bs ∙ ap (λ v. or_else v (admitted x.first [] [] r.contracts p s bs lead)) rule in
     let q = err_from_is_err_and c.from_residual.result c.from_residual.ensures.1 in
@@ -30,7 +30,7 @@ returns-in_err-check_terms c =
 -- the rule refuses nothing
 passed : (c : After-new) → grant_rule (end_route c.args.self.now) c.args.party c.args.spacing.0 c.args.bounds.now c.args.lead.0 None ≡ None
 passed c =
-    sym (rule_by c.args.self.now c.args.party c.args.spacing.0 c.args.lead.0 c.args.bounds.now c.is_some-known.result c.bad_hop-bad.result c.busy.result (c.is_some-known.ensures ∙ ap is_some c.trail.ensures.value) (c.bad_hop-bad.ensures [] refl) c.busy.ensures)
+    sym (rule_by c.args.self.now c.args.party c.args.spacing.0 c.args.lead.0 c.args.bounds.now c.is_some-known.result c.bad_hop-bad.result c.busy.result (c.is_some-known.ensures ∙ ap is_some c.get.ensures.value) (c.bad_hop-bad.ensures [] refl) c.busy.ensures)
     ∙ answered_ok _ c.in_ok-check_terms.ensures
 
 pub unwrap-trail-requires : goal.unwrap-trail-requires
@@ -69,7 +69,7 @@ invariant_of-self c =
     let t = made at.After-check_room in
     let y = c.unwrap-trail.result in
     let unused : (y.latest ≡ None) × (y.last ≡ None) = rw c.unwrap-trail.ensures at c.new.ensures.unused in
-    record { tracked = (end_granted c.args.self.now c.args.party c.args.spacing.0 c.args.lead.0 c.args.bounds.now y c.keep.new.self c.keep.ensures (ap (λ (d : Span). d.0) t.0) (ap (λ (d : Span). d.0) t.1) unused.0 unused.1 (passed at.After-new)).tracked }
+    record { tracked = (end_granted c.args.self.now c.args.party c.args.spacing.0 c.args.lead.0 c.args.bounds.now y (record { parties = c.set.new.self }) c.set.ensures (ap (λ (d : Span). d.0) t.0) (ap (λ (d : Span). d.0) t.1) unused.0 unused.1 (passed at.After-new)).tracked }
 
 pub returns : goal.returns
 returns c =
@@ -87,7 +87,7 @@ returns c =
     let leads = ap (λ (d : Span). d.0) t.1 in
     let spaces = ap (λ (d : Span). d.0) t.0 in
     let all = sym (answered_ok _ (sym c.in_ok-check_room.was ∙ asked at.After-check_room rule)) in
-    let route = (end_granted x p s lead bs y c.keep.new.self c.keep.ensures spaces leads unused.0 unused.1 rule).route in
+    let route = (end_granted x p s lead bs y (record { parties = c.set.new.self }) c.set.ensures spaces leads unused.0 unused.1 rule).route in
     record {
       answer = ap answered all;
       becomes = route ∙ ap (λ v. unless v r (granted r p s bs lead)) all;

@@ -20,7 +20,7 @@ invariant_of-self-clause-sound g c =
     let a = c.args.arrival.0 in
     let lev = s.level in
     let read : header_of c.args.header.now ≡ Ok arrived = sym c.read.ensures.value ∙ c.in_ok-arrived.was in
-    let none : k.crossings p ≡ None = sym c.of.ensures.value ∙ c.in-None.is in
+    let none : k.crossings p ≡ None = sym c.get.ensures.value ∙ c.in-None.is in
     let becomes = c.enter.ensures.becomes ∙ (λ i. unless (header_rule k.behind (read i) a) k.behind (entered_by k.behind (read i) a)) in
     ∣ record { days = s.days ∙ sym (passed_slot k lev p none e l (arrival_rule k.behind (k.behind.contracts p) p e) (g.P.Path.route c.enter.new.self) becomes); level = passed_level k lev p none e l (g.P.Path.route c.enter.new.self) becomes } ∣₁
 
@@ -36,7 +36,7 @@ returns-in-None g c =
     let a = c.args.arrival.0 in
     let lev = s.level in
     let read : header_of c.args.header.now ≡ Ok arrived = sym c.read.ensures.value ∙ c.in_ok-arrived.was in
-    let none : k.crossings p ≡ None = sym c.of.ensures.value ∙ c.in-None.is in
+    let none : k.crossings p ≡ None = sym c.get.ensures.value ∙ c.in-None.is in
     let becomes = c.enter.ensures.becomes ∙ (λ i. unless (header_rule k.behind (read i) a) k.behind (entered_by k.behind (read i) a)) in
     record {
       answer = c.enter.ensures.answer ∙ ap (λ r. answered (header_rule k.behind r a)) read ∙ ap answered (rule_behind k lev p none e) ∙ sym (ap (λ r. answered (header_rule (joined k) r a)) read);

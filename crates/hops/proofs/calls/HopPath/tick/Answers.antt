@@ -17,16 +17,12 @@ use Rattle.hops.proofs.Sides.{Honest}
 use Rattle.hops.proofs.TickWhole.{ready_now, final, Final}
 use Rattle.hops.proofs.calls.HopPath.tick.Goals as goal
 
-pub admit-requires : goal.admit-requires
-admit-requires g c =
+pub admit-requires-clause-consent : goal.admit-requires-clause-consent
+admit-requires-clause-consent g c p l e =
     let h = c.args.self.now in
     let k = parts_of g.S.Scheduler.meaning g.P.Path.route h in
     let s = sound_opened (now_of h.waiting) k h.sound in
-    let ok = answered_ok (tick_verdict k.behind) (sym c.in_ok-tick.was ∙ c.tick.ensures.answer) in
-    record {
-      slots = subst (λ n. n ≤ last_slot) (sym s.days) (tick_in_time k.behind ok);
-      consent = λ p l e. put_consents k s.level p l (sym (ap (waiting_of h.waiting p) s.days) ∙ e);
-    }
+    put_consents k s.level p l (sym (ap (waiting_of h.waiting p) s.days) ∙ e)
 
 pub send-sent-requires : goal.send-sent-requires
 send-sent-requires g c =

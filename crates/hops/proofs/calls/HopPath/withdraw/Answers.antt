@@ -13,7 +13,7 @@ invariant_of-self-clause-sound g c =
     let k = parts_of g.S.Scheduler.meaning g.P.Path.route h in
     let s = sound_opened (now_of h.waiting) k h.sound in
     let p = c.args.party in
-    let u = uncrossed k (now_of h.waiting) s p (g.met.P.Path.lawful h.behind) (sym c.of.ensures.value ∙ none_is c.of.result (sym c.is_some.ensures ∙ c.if-is_some.false)) (g.P.Path.route c.withdraw.new.self) c.withdraw.ensures.becomes in
+    let u = uncrossed k (now_of h.waiting) s p (g.met.P.Path.lawful h.behind) (sym c.get.ensures.value ∙ none_is c.get.result (sym c.is_some.ensures ∙ c.if-is_some.false)) (g.P.Path.route c.withdraw.new.self) c.withdraw.ensures.becomes in
     ∣ u.sound ∣₁
 
 pub returns-else-is_some : goal.returns-else-is_some
@@ -22,7 +22,7 @@ returns-else-is_some g c =
     let k = parts_of g.S.Scheduler.meaning g.P.Path.route h in
     let s = sound_opened (now_of h.waiting) k h.sound in
     let p = c.args.party in
-    let u = uncrossed k (now_of h.waiting) s p (g.met.P.Path.lawful h.behind) (sym c.of.ensures.value ∙ none_is c.of.result (sym c.is_some.ensures ∙ c.if-is_some.false)) (g.P.Path.route c.withdraw.new.self) c.withdraw.ensures.becomes in
+    let u = uncrossed k (now_of h.waiting) s p (g.met.P.Path.lawful h.behind) (sym c.get.ensures.value ∙ none_is c.get.result (sym c.is_some.ensures ∙ c.if-is_some.false)) (g.P.Path.route c.withdraw.new.self) c.withdraw.ensures.becomes in
     record {
       answer = c.withdraw.ensures.answer ∙ ap answered (sym u.verdict);
       becomes = u.route;

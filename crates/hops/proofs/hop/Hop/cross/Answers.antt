@@ -55,15 +55,6 @@ returns-in_err-check_room g c =
     let o = no_room (asked-at g at.Start) (now_of c.args.self.now.waiting) c.from_residual.result c.in_err-check_room.field-0.0 (sound_opened (now_of c.args.self.now.waiting) (parts_of g.S.Scheduler.meaning g.P.Path.route c.args.self.now) c.args.self.now.sound) (sym (room g at.After-check_room) ∙ c.in_err-check_room.was) (f.1 ∙ ap Err f.2) in
     record { answer = o.answer; becomes = o.becomes }
 
-pub invariant_of-self : goal.invariant_of-self
-invariant_of-self g c =
-    let at = goal.at.invariant_of-self g c in
-    let h = c.args.self.now in
-    let f = c.in_err-numbered.field-0.0 in
-    let o = no_consent (asked-at g at.Start) c.in_ok-check_room.field-0 (sym (room g at.After-check_room) ∙ c.in_ok-check_room.was)
-    (now_of h.waiting) (g.S.Scheduler.meaning c.grant.new.self) (Err f) f (sound_opened (now_of h.waiting) (parts_of g.S.Scheduler.meaning g.P.Path.route h) h.sound) (consent g at.After-numbered ∙ c.in_err-numbered.was) c.grant.ensures.becomes refl in
-    record { short = h.short; sound = ∣ o.kept ∣₁ }
-
 pub returns-in_err-numbered : goal.returns-in_err-numbered
 returns-in_err-numbered g c =
     let at = goal.at.returns-in_err-numbered g c in
