@@ -87,7 +87,7 @@ impl Path for End {
 
     fn withdraw(&mut self, party: u8) -> Result<(), Fault> {
         self.check_withdrawal(party)?;
-        self.trails.parties.set(party, None);
+        self.trails.forget(party);
         Ok(())
     }
 

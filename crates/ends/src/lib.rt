@@ -5,5 +5,6 @@ pub mod calls;
 mod checks;
 mod delivery;
 pub mod end;
+mod keeping;
 mod lookups;
 pub mod trails;

@@ -28,7 +28,7 @@ invariant_of-self c =
     let p = c.args.party in
     let held = holds_is (now_of x.waiting) x.first (trail_of x.trails) (waiting_of x.waiting) (tracked_of x) p in
     let ok : withdraw_verdict (end_route x) p ≡ None = ap (λ b. withdraw_rule ((end_route x).contracts p) b p) held ∙ answered_ok _ c.in_ok-check_withdrawal.ensures.answer in
-    record { tracked = (end_withdrawn x p (record { parties = c.set.new.self }) (search rules) c.set.ensures (withdrawal ((end_route x).contracts p) (holds_of (end_route x) p) p ok)).tracked }
+    record { tracked = (end_withdrawn x p c.forget.new.self (search rules) c.forget.ensures (withdrawal ((end_route x).contracts p) (holds_of (end_route x) p) p ok)).tracked }
 
 pub returns : goal.returns
 returns c =
@@ -37,7 +37,7 @@ returns c =
     let p = c.args.party in
     let held = holds_is (now_of x.waiting) x.first (trail_of x.trails) (waiting_of x.waiting) (tracked_of x) p in
     let ok : withdraw_verdict r p ≡ None = ap (λ b. withdraw_rule (r.contracts p) b p) held ∙ answered_ok _ c.in_ok-check_withdrawal.ensures.answer in
-    let route = (end_withdrawn x p (record { parties = c.set.new.self }) (search rules) c.set.ensures (withdrawal (r.contracts p) (holds_of r p) p ok)).route in
+    let route = (end_withdrawn x p c.forget.new.self (search rules) c.forget.ensures (withdrawal (r.contracts p) (holds_of r p) p ok)).route in
     record {
       answer = ap answered (sym ok);
       becomes = route ∙ ap (λ v. unless v r (withdrawn r p)) (sym ok);
