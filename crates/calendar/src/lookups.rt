@@ -40,7 +40,7 @@ impl Calendar {
         if !self.has_room(party, slot) {
             return None;
         }
-        self.days[day_of(slot)]?.get(party)
+        self.days[day_of(slot)].as_ref()?.get(party)
     }
 
     /// Whether a cell of the party waits for a slot from `from` on and below `to`.

@@ -11,13 +11,13 @@ returns-then-not-has_room c =
     let none : room (now_of s) c.args.party c.args.slot.0 ≡ false = sym {b = room (now_of s) c.args.party c.args.slot.0} c.if-not-has_room.ensures in
     sym (waiting_out s c.args.party c.args.slot.0 none)
 
-pub returns-in_err-self : goal.returns-in_err-self
-returns-in_err-self c =
+pub returns-in_err-as_ref : goal.returns-in_err-as_ref
+returns-in_err-as_ref c =
     let s = c.args.self.now in
     let p = c.args.party in
     let free : room (now_of s) p c.args.slot.0 ≡ true = sym c.if-not-has_room.ensures in
     let within : c.day_of.result < length s.days = search rules in
-    let day = get_or_default s.days c.day_of.result _ _ within ∙ c.in_err-self.was in
+    let day = get_or_default s.days c.day_of.result _ _ within ∙ sym c.in_err-as_ref.ensures.value in
     c.from_residual.ensures ∙ ap (λ o. row_of o p) (sym day) ∙ sym (waiting_in s p c.args.slot.0 free ∙ ap (λ k. label_at s.days k p) (sym c.day_of.ensures))
 
 pub returns : goal.returns
@@ -26,5 +26,5 @@ returns c =
     let p = c.args.party in
     let free : room (now_of s) p c.args.slot.0 ≡ true = sym c.if-not-has_room.ensures in
     let within : c.day_of.result < length s.days = search rules in
-    let day = get_or_default s.days c.day_of.result _ _ within ∙ c.in_ok-self.was in
+    let day = get_or_default s.days c.day_of.result _ _ within ∙ sym c.in_ok-as_ref.ensures.value in
     c.get.ensures.value ∙ ap (λ o. row_of o p) (sym day) ∙ sym (waiting_in s p c.args.slot.0 free ∙ ap (λ k. label_at s.days k p) (sym c.day_of.ensures))
