@@ -5,11 +5,12 @@
 //! in which nothing is served, and `FLOW party n` for n slots, in each a put of the party.
 #![tactic(auto)]
 
-use anyhow::{bail, ensure};
+use anyhow::{Context, bail, ensure};
 use cells::faults::Fault;
 use cells::times::Span;
 use makes::{AnyMake, make};
 use scheduler::Scheduler;
+use std::str::Split;
 use std::{fmt, fs};
 
 /// What a call answered, without a value: `OK`, or `NO` and the number of the cause.
@@ -25,6 +26,11 @@ impl fmt::Display for Answer {
     }
 }
 
+/// The next word of a command, which is to write a number.
+fn word<'a>(words: &mut Split<'a, char>) -> anyhow::Result<&'a str> {
+    words.next().context("a number is missing")
+}
+
 /// Ends the slot, and says which cell was served, and in which slot it was due.
 fn serve(rt: &HostRuntime, any: &mut AnyMake) -> anyhow::Result<()> {
     match any.serve() {
@@ -34,28 +40,29 @@ fn serve(rt: &HostRuntime, any: &mut AnyMake) -> anyhow::Result<()> {
                 .map_or(0, |contract| contract.bound.0);
             let due = (u64::from(cell.eligible.0) + u64::from(bound)).saturating_sub(1);
             println!(rt;
-                "CELL\t{}\t{}\t{}\t{due}",
+                "SERVE\tCELL\t{}\t{}\t{}\t{due}",
                 cell.party, cell.label, cell.eligible.0
             )?;
         }
-        Ok(None) => rt.println("NONE")?,
-        Err(fault) => println!(rt; "{}", Answer(Err(fault)))?,
+        Ok(None) => rt.println("SERVE\tNONE")?,
+        Err(fault) => println!(rt; "SERVE\t{}", Answer(Err(fault)))?,
     }
     Ok(())
 }
 
 /// Ends so many slots, in which nothing is served.
-fn idle(any: &mut AnyMake, slots: u32) -> anyhow::Result<()> {
+fn idle(rt: &HostRuntime, any: &mut AnyMake, slots: u32) -> anyhow::Result<()> {
     for _ in 0..slots {
         ensure!(matches!(any.serve(), Ok(None)), "a slot was not idle");
     }
+    println!(rt; "IDLE\t{slots}\tOK")?;
     Ok(())
 }
 
-/// Puts a cell of the party in each of so many slots, and says how many were accepted and served.
+/// Puts a cell of the party wherever its contract allows one and serves, so many slots long, and
+/// says how many cells were accepted and served.
 fn flow(rt: &HostRuntime, any: &mut AnyMake, party: u8, slots: u32) -> anyhow::Result<()> {
-    let mut accepted: u64 = 0;
-    let mut served: u64 = 0;
+    let (mut accepted, mut served) = (0u32, 0u32);
     for label in 0..slots {
         if any.put(party, label).is_ok() {
             accepted = accepted.saturating_add(1);
@@ -64,44 +71,56 @@ fn flow(rt: &HostRuntime, any: &mut AnyMake, party: u8, slots: u32) -> anyhow::R
             served = served.saturating_add(1);
         }
     }
-    println!(rt; "OK\t{accepted}\t{served}")?;
+    println!(rt; "FLOW\t{party}\t{slots}\tOK\t{accepted}\t{served}")?;
     Ok(())
 }
 
-/// Carries out the command that these words write, and says what it answered.
-fn obey(rt: &HostRuntime, any: &mut AnyMake, words: &[&str]) -> anyhow::Result<()> {
-    match words {
-        ["MAKE", number] => {
-            *any = make(number.parse()?);
-            rt.println("OK")?;
+/// Carries out the command of a party that these words go on with, and says what it answered.
+fn obey_party(
+    rt: &HostRuntime,
+    any: &mut AnyMake,
+    verb: &str,
+    words: &mut Split<'_, char>,
+) -> anyhow::Result<()> {
+    let party: u8 = word(words)?.parse()?;
+    match verb {
+        "GRANT" => {
+            let spacing: u32 = word(words)?.parse()?;
+            let bound: u32 = word(words)?.parse()?;
+            let answer = Answer(any.grant(party, Span(spacing), Span(bound)));
+            println!(rt; "GRANT\t{party}\t{spacing}\t{bound}\t{answer}")?;
         }
-        ["GRANT", party, spacing, bound, ..] => {
-            let spacing = Span(spacing.parse()?);
-            let bound = Span(bound.parse()?);
-            println!(rt; "{}", Answer(any.grant(party.parse()?, spacing, bound)))?;
+        "WITHDRAW" => println!(rt; "WITHDRAW\t{party}\t{}", Answer(any.withdraw(party)))?,
+        "FLOW" => flow(rt, any, party, word(words)?.parse()?)?,
+        "PUT" => {
+            let label: u32 = word(words)?.parse()?;
+            println!(rt; "PUT\t{party}\t{label}\t{}", Answer(any.put(party, label)))?;
         }
-        ["WITHDRAW", party, ..] => println!(rt; "{}", Answer(any.withdraw(party.parse()?)))?,
-        ["PUT", party, label, ..] => {
-            println!(rt; "{}", Answer(any.put(party.parse()?, label.parse()?)))?;
-        }
-        ["SERVE", ..] => serve(rt, any)?,
-        ["IDLE", slots, ..] => {
-            idle(any, slots.parse()?)?;
-            rt.println("OK")?;
-        }
-        ["FLOW", party, slots, ..] => flow(rt, any, party.parse()?, slots.parse()?)?,
         _ => bail!("no such command"),
     }
     Ok(())
+}
+
+/// Carries out a command other than `MAKE`. Words past those that it wants are not read.
+fn obey(rt: &HostRuntime, any: &mut AnyMake, line: &str) -> anyhow::Result<()> {
+    let mut words = line.split(' ');
+    match words.next().unwrap_or("") {
+        "SERVE" => serve(rt, any),
+        "IDLE" => idle(rt, any, word(&mut words)?.parse()?),
+        verb => obey_party(rt, any, verb, &mut words),
+    }
 }
 
 fn main(rt: HostRuntime) -> anyhow::Result<()> {
     let script = fs::read_to_string(&rt, "script.txt")?;
     let mut any = make(0);
     for line in script.lines() {
-        let words = line.split(' ').collect::<Vec<&str>>(rt.alloc())?;
-        print!(rt; "{}\t", line.replace(rt.alloc(), ' ', "\t")?)?;
-        obey(&rt, &mut any, &words)?;
+        if let Some(number) = line.strip_prefix("MAKE ") {
+            any = make(number.parse()?);
+            println!(rt; "MAKE\t{number}\tOK")?;
+        } else {
+            obey(&rt, &mut any, line)?;
+        }
     }
     Ok(())
 }

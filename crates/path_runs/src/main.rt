@@ -19,7 +19,8 @@ use paths::Path;
 use paths::tables::Delivery;
 use scheduler::Scheduler;
 use std::alloc::Global;
-use std::str::FromStr;
+use std::iter::Skip;
+use std::str::{FromStr, Lines, Split};
 use std::{fmt, fs};
 
 /// What a call answered: `OK`, or `NO` and the numbers of the cause, the layer, the party and the hop.
@@ -42,6 +43,27 @@ impl fmt::Display for Answer {
     }
 }
 
+/// A line, with tabs in place of its blanks.
+#[derive(Drop)]
+struct Tabbed<'a>(&'a str);
+
+impl fmt::Display for Tabbed<'_> {
+    fn fmt<W: fmt::Write>(&self, f: &mut fmt::Formatter<W>) -> fmt::Result {
+        for (place, word) in self.0.split(' ').enumerate() {
+            if place > 0 {
+                f.write_str("\t")?;
+            }
+            f.write_str(word)?;
+        }
+        Ok(())
+    }
+}
+
+/// The next word of a command or of a place, which is to write a number.
+fn word<'a>(words: &mut Split<'a, char>) -> anyhow::Result<&'a str> {
+    words.next().context("a number is missing")
+}
+
 /// A hop of a `PATH` line.
 #[derive(Clone, Copy)]
 struct Place {
@@ -53,11 +75,11 @@ struct Place {
 impl FromStr for Place {
     type Err = anyhow::Error;
 
-    fn from_str(word: &str) -> anyhow::Result<Place> {
-        let (kind, link) = word.split_once(':').context("a link is missing")?;
+    fn from_str(place: &str) -> anyhow::Result<Place> {
+        let mut parts = place.split(':');
         Ok(Place {
-            kind: kind.parse()?,
-            link: link.parse()?,
+            kind: word(&mut parts)?.parse()?,
+            link: word(&mut parts)?.parse()?,
         })
     }
 }
@@ -111,82 +133,124 @@ fn ticks<P: Path>(rt: &HostRuntime, path: &mut P, slots: u32) -> anyhow::Result<
     Ok(())
 }
 
-/// The eight bounds that the first of these words write.
-fn bounds_of(words: &[&str]) -> anyhow::Result<[Span; 8]> {
-    <[&str; 8]>::try_from(words.get(..8).context("eight bounds are wanted")?)?.try_map(
-        |word| -> anyhow::Result<Span> { Ok(Span(word.parse()?)) },
-    )
+/// The eight bounds that the next words write.
+fn bounds_of(words: &mut Split<'_, char>) -> anyhow::Result<[Span; 8]> {
+    let mut bounds = [Span(0); 8];
+    for bound in &mut bounds {
+        *bound = Span(word(words)?.parse()?);
+    }
+    Ok(bounds)
 }
 
-/// The bytes that these words write.
-fn bytes_of(heap: Global, words: &[&str]) -> anyhow::Result<Vec<u8>> {
-    words
-        .iter()
+/// Carries out a `GRANT`, of which these are the words from the party on.
+fn grant<P: Path>(path: &mut P, words: &mut Split<'_, char>) -> anyhow::Result<Answer> {
+    let party = word(words)?.parse()?;
+    let spacing = Span(word(words)?.parse()?);
+    let lead = Span(word(words)?.parse()?);
+    let bounds = bounds_of(words)?;
+    Ok(Answer(path.grant(party, spacing, &bounds, lead)))
+}
+
+/// Carries out an `ENTER`: the last word is the arrival, those between are the bytes of a header.
+fn enter<P: Path>(heap: Global, path: &mut P, line: &str) -> anyhow::Result<Answer> {
+    let (before, arrival) = line.rsplit_once(' ').context("an arrival is missing")?;
+    let arrival = Slot(arrival.parse()?);
+    let header: Vec<u8> = before
+        .split(' ')
+        .skip(1)
         .map(|word| -> anyhow::Result<u8> { Ok(word.parse()?) })
-        .try_collect(heap)
+        .try_collect(heap)?;
+    Ok(Answer(path.enter(&header, arrival)))
 }
 
-/// Carries out the command that these words write, and ends its line with what it answered.
-fn obey<P: Path>(rt: &HostRuntime, path: &mut P, words: &[&str]) -> anyhow::Result<()> {
-    match words {
-        ["GRANT", party, spacing, lead, bounds @ ..] => {
-            let spacing = Span(spacing.parse()?);
-            let lead = Span(lead.parse()?);
-            let answer = path.grant(party.parse()?, spacing, &bounds_of(bounds)?, lead);
-            println!(rt; "\t{}", Answer(answer))?;
-        }
-        ["WITHDRAW", party, ..] => println!(rt; "\t{}", Answer(path.withdraw(party.parse()?)))?,
-        ["ENTER", header @ .., arrival] => {
-            let header = bytes_of(rt.alloc(), header)?;
-            let answer = path.enter(&header, Slot(arrival.parse()?));
-            println!(rt; "\t{}", Answer(answer))?;
-        }
-        ["TICK", ..] => ticks(rt, path, 1)?,
-        ["RUN", slots, ..] => ticks(rt, path, slots.parse()?)?,
-        ["HOLDS", party, ..] => {
-            let holds = path.holds(party.parse()?);
-            println!(rt; "\t{}", if holds { "YES" } else { "NO" })?;
-        }
-        ["RESET", ..] => {
+/// Carries out a command, and ends its line with what it answered. Words past those that it wants
+/// are not read.
+fn obey<P: Path>(rt: &HostRuntime, path: &mut P, line: &str) -> anyhow::Result<()> {
+    let mut words = line.split(' ');
+    match words.next().unwrap_or("") {
+        "GRANT" => println!(rt; "\t{}", grant(path, &mut words)?)?,
+        "ENTER" => println!(rt; "\t{}", enter(rt.alloc(), path, line)?)?,
+        "RESET" => {
             path.reset(0);
             rt.println("\tOK")?;
         }
-        _ => bail!("no such command"),
+        "TICK" => ticks(rt, path, 1)?,
+        "RUN" => ticks(rt, path, word(&mut words)?.parse()?)?,
+        verb => {
+            let party: u8 = word(&mut words)?.parse()?;
+            match verb {
+                "WITHDRAW" => println!(rt; "\t{}", Answer(path.withdraw(party)))?,
+                "HOLDS" => println!(rt; "\t{}", if path.holds(party) { "YES" } else { "NO" })?,
+                _ => bail!("no such command"),
+            }
+        }
     }
     Ok(())
 }
 
-/// Carries out the commands of a path.
-fn run<P: Path>(rt: &HostRuntime, path: &mut P, commands: &str) -> anyhow::Result<()> {
-    for line in commands.lines() {
-        print!(rt; "{}", line.replace(rt.alloc(), ' ', "\t")?)?;
-        let words = line.split(' ').collect::<Vec<&str>>(rt.alloc())?;
-        obey(rt, path, &words)?;
+/// Carries out the commands of a path, up to the next `PATH`.
+fn run<P: Path>(rt: &HostRuntime, path: &mut P, commands: Skip<Lines<'_>>) -> anyhow::Result<()> {
+    for line in commands.take_while(|line| !line.starts_with("PATH ")) {
+        print!(rt; "{}", Tabbed(line))?;
+        obey(rt, path, line)?;
     }
     Ok(())
 }
 
-/// Makes the path of these places, from the front on, and carries out its commands.
-fn run_at(rt: &HostRuntime, places: &[Place], commands: &str) -> anyhow::Result<()> {
-    // three arms stay: a path of each length is a type of its own, so no loop builds it
-    match places {
-        [a] => run(rt, &mut a.before(End::new()), commands),
-        [a, b] => run(rt, &mut a.before(b.before(End::new())), commands),
-        [a, b, c, ..] => run(rt, &mut a.before(b.before(c.before(End::new()))), commands),
-        [] => bail!("a path has one to three hops"),
+// A function for a path of each length, since each is a type of its own, so that no loop builds it.
+// Not inlined: in one function, room for all three would be taken and cleared at each path.
+
+/// Runs a path of one hop.
+#[inline(never)]
+fn run_one(rt: &HostRuntime, a: Place, commands: Skip<Lines<'_>>) -> anyhow::Result<()> {
+    run(rt, &mut a.before(End::new()), commands)
+}
+
+/// Runs a path of two hops.
+#[inline(never)]
+fn run_two(rt: &HostRuntime, a: Place, b: Place, commands: Skip<Lines<'_>>) -> anyhow::Result<()> {
+    run(rt, &mut a.before(b.before(End::new())), commands)
+}
+
+/// Runs a path of three hops.
+#[inline(never)]
+fn run_three(
+    rt: &HostRuntime,
+    a: Place,
+    b: Place,
+    c: Place,
+    commands: Skip<Lines<'_>>,
+) -> anyhow::Result<()> {
+    run(rt, &mut a.before(b.before(c.before(End::new()))), commands)
+}
+
+/// Makes the path of the first line of a text, from the front on, and carries out its commands.
+/// Places past the third are not read.
+fn run_path(rt: &HostRuntime, text: &str) -> anyhow::Result<()> {
+    let line = text.lines().next().unwrap_or("");
+    println!(rt; "{}\tOK", Tabbed(line))?;
+    let mut places = line.split(' ').skip(1).map(|place| place.parse::<Place>());
+    let first = places.next().transpose()?;
+    let second = places.next().transpose()?;
+    let third = places.next().transpose()?;
+    let commands = text.lines().skip(1);
+    match (first, second, third) {
+        (Some(a), Some(b), Some(c)) => run_three(rt, a, b, c, commands),
+        (Some(a), Some(b), None) => run_two(rt, a, b, commands),
+        (Some(a), None, _) => run_one(rt, a, commands),
+        (None, _, _) => bail!("a path has one to three hops"),
     }
 }
 
 fn main(rt: HostRuntime) -> anyhow::Result<()> {
     let script = fs::read_to_string(&rt, "script.txt")?;
-    for part in script.split("PATH ").skip(1) {
-        let (places, commands) = part.split_once('\n').unwrap_or((part, ""));
-        println!(rt; "PATH\t{}\tOK", places.replace(rt.alloc(), ' ', "\t")?)?;
-        let places: Vec<Place> = places
-            .split(' ')
-            .map(|place| place.parse::<Place>())
-            .try_collect(rt.alloc())?;
-        run_at(&rt, &places, commands)?;
+    for (at, _) in script.match_indices("PATH ") {
+        // a line of a path begins with the word
+        if let Some((before, text)) = script.split_at_checked(at)
+            && (before.is_empty() || before.ends_with('\n'))
+        {
+            run_path(&rt, text)?;
+        }
     }
     Ok(())
 }
