@@ -18,6 +18,7 @@ impl Order<Held> for ByDue {
     ghost transitive = { Prim.search rules };
 
     fn before(&self, x: &Held, y: &Held) -> bool {
-        (x.due(), x.cell.party) < (y.due(), y.cell.party)
+        let (a, b) = (x.due(), y.due());
+        a < b || a == b && x.cell.party < y.cell.party
     }
 }

@@ -1,12 +1,14 @@
 -- Which fields write a number.
-use Rattle.std.proofs.Common.{◌≡◌, ℕ, ◌^◌, ◌<◌, ◌≤◌, Bool, true, false, not, ◌&&◌, ◌||◌, eqb, leb, List, ◌∷◌, ◌++◌, [], length, get_or, Some, None, Ok, Err, decimal, Result, Bor, MatchResult, sym, refl, ap, ◌∙◌, inl, inr, arith}
-use Rattle.std.proofs.lemmas.Str.{IsUtf8-from_ascii}
-use Rattle.std.proofs.lemmas.Bool.{cond-true, cond-false, le-leb, leb-true, eqb-true, eqb-false, and_parts, and_from, and_right, or_left, or_right, or_cases, not-true, not_from_false, cases_Bool}
-use Rattle.std.specs.Result.{OkIff, result_ok}
+use Rattle.std.proofs.Common.{◌≡◌, ℕ, ◌+◌, ◌-◌, ◌*◌, ◌^◌, ◌<◌, ◌≤◌, Bool, true, false, not, ◌&&◌, ◌||◌, eqb, leb, List, ◌∷◌, ◌++◌, [], length, get_or, take, Some, None, decimal, sym, refl, subst, inl, inr, arith}
+use Rattle.std.proofs.lemmas.List.{length-take-le, take_all}
+use Rattle.std.proofs.lemmas.Str.{digit_value_digit}
+use Rattle.std.proofs.lemmas.Int.Digits.{digits_more, digits_value_more}
+use Rattle.std.proofs.lemmas.Bool.{cond-true, cond-false, eq-eqb, lt-leb, le-leb, leb-true, eqb-true, eqb-false, and_parts, and_from, and_left, and_right, or_left, or_right, or_cases, or_from, not-true, not_from_true, not_from_false, cases_Bool}
+use Rattle.std.specs.Int.{IsInRange}
 use Rattle.std.specs.Str.Parse.{AllDigits, digits_value}
-use Rattle.std.specs.Str.{all_ascii_digits, IsUtf8}
-use Rattle.std.proofs.lemmas.Str.Parse.{IsNumeralModel, numerals_by_value, tells_digits, tells_all_ascii_digits, digits_value_short}
-use Rattle.std.proofs.lemmas.Fmt.{decimal-digits_value, IsAscii-from_digits}
+use Rattle.std.specs.Str.{all_ascii_digits}
+use Rattle.std.proofs.lemmas.Str.Parse.{IsNumeralModel, numerals_by_value, tells_digits, tells_all_ascii_digits, digit_at, digits_value_short}
+use Rattle.std.proofs.lemmas.Fmt.{decimal-digits_value}
 use Rattle.texts.specs.Fields.{is_numeral, numeral}
 
 pub own : IsNumeralModel (AllDigits 10) (digits_value 10)
@@ -19,22 +21,31 @@ tests = numerals_by_value (λ ds. all_ascii_digits ds ≡ true) tells_all_ascii_
 abbrev pub Bare : List ℕ → Type 0
 Bare ds = get_or ds 0 0 ≡ 48 → length ds ≤ 1
 
-refused : (ds : List ℕ) → is_numeral ds ≡ false → None ≡ numeral ds
+pub refused : (ds : List ℕ) → is_numeral ds ≡ false → None ≡ numeral ds
 refused ds e = sym (cond-false (is_numeral ds) _ _ e)
 
 undigited : (ds : List ℕ) → all_ascii_digits ds ≡ false → None ≡ numeral ds
 undigited ds e =
     refused ds (and_right (leb 1 (length ds) && leb (length ds) 10) _ (and_right (not (eqb (get_or ds 0 0) 48) || leb (length ds) 1) _ e))
 
-untexted : (ds : List ℕ) → ¬ (IsUtf8 ds) → (b : Bool) → all_ascii_digits ds ≡ b → b ≡ false
-untexted ds n true e = absurd (n (IsUtf8-from_ascii ds (IsAscii-from_digits ds (tests.to ds e))))
-untexted ds n false e = refl
+pub too_short : (ds : List ℕ) → length ds ≡ 0 → None ≡ numeral ds
+too_short ds z = refused ds (and_left _ _ (and_left _ _ (lt-leb 1 (length ds) (omega arith))))
 
--- a field that is no text writes no number
-pub no_text : (ds : List ℕ) → ¬ (IsUtf8 ds) → None ≡ numeral ds
-no_text ds n = undigited ds (untexted ds n (all_ascii_digits ds) refl)
+pub too_long : (ds : List ℕ) → 10 < length ds → None ≡ numeral ds
+too_long ds l = refused ds (and_left _ _ (and_right _ _ (lt-leb (length ds) 10 l)))
 
--- nor does one with a tab in it
+pub padded : (ds : List ℕ) → get_or ds 0 0 ≡ 48 → 1 < length ds → None ≡ numeral ds
+padded ds z l =
+    refused ds (and_right _ _ (and_left _ _ (or_from _ _ (not_from_true _ (eq-eqb (get_or ds 0 0) 48 z)) (lt-leb (length ds) 1 l))))
+
+no_digit : (ds : List ℕ) (i : ℕ) → i < length ds → (IsInRange 48 57 (get_or ds i 0) → ⊥) → (b : Bool) → all_ascii_digits ds ≡ b → b ≡ false
+no_digit ds i l never true e = absurd (never (digit_at ds i (tests.to ds e) l))
+no_digit ds i l never false e = refl
+
+pub not_a_digit : (ds : List ℕ) (i : ℕ) → i < length ds → (IsInRange 48 57 (get_or ds i 0) → ⊥) → None ≡ numeral ds
+not_a_digit ds i l never = undigited ds (no_digit ds i l never (all_ascii_digits ds) refl)
+
+-- a field with a tab in it writes no number
 tab_undigited : (p r : List ℕ) → all_ascii_digits (p ++ 9 ∷ r) ≡ false
 tab_undigited [] r = refl
 tab_undigited (x ∷ p) r = and_right _ _ (tab_undigited p r)
@@ -70,27 +81,25 @@ numeral_tells ds h =
     let d = and_parts (not (eqb (get_or ds 0 0) 48) || leb (length ds) 1) (all_ascii_digits ds) a.1 in
     record { some = omega (arith, leb-true 1 (length ds) b.0); few = leb-true (length ds) 10 b.1; bare = bare_from ds d.0; digits = tests.to ds d.1 }
 
-named : (ds : List ℕ) → Numeral ds → Some (digits_value 10 ds) ≡ numeral ds
+pub named : (ds : List ℕ) → Numeral ds → Some (digits_value 10 ds) ≡ numeral ds
 named ds n =
     sym (cond-true (is_numeral ds) _ _ (and_from _ _ (and_from _ _ (le-leb 1 (length ds) (omega arith)) (le-leb (length ds) 10 n.few)) (and_from _ _ (bare_test ds n.bare) (tests.from ds n.digits))))
 
-pub written : (ds : List ℕ) → Numeral ds → ds ≡ decimal (digits_value 10 ds)
-written ds n = sym (decimal-digits_value own ds n.digits n.some (λ e. (let k = n.bare e in omega arith)) (omega (arith, digits_value_short own ds 10 n.digits n.few)))
+pub written : (ds : List ℕ) → Numeral ds → (ds ≡ decimal (digits_value 10 ds)) × (digits_value 10 ds < 10 ^ 10)
+written ds n =
+    let v = digits_value_short own ds 10 n.digits n.few in
+    (sym (decimal-digits_value own ds n.digits n.some (λ e. (let k = n.bare e in omega arith)) (omega arith)), v)
 
--- what `from_utf8` answered
-pub unread : (ds : List ℕ) {E : Type 0} (Q : E → Type 0) (r : Result (Bor (List ℕ)) E) → MatchResult r (λ s. (s.now ≡ ds) × IsUtf8 ds) (λ e. ¬ (IsUtf8 ds) × Q e) → result_ok r ≡ None → ¬ (IsUtf8 ds)
-unread ds Q (Ok s) m h = λ _. (let z : ◌≡◌ {A = ℕ} 0 1 = cc in omega arith)
-unread ds Q (Err e) m h = m.0
+-- one digit more in the loop over a field
+pub short : (bs : List ℕ) (i : ℕ) → i < length bs → length bs ≤ 10 → AllDigits 10 (take i bs) → digits_value 10 (take i bs) < 10 ^ 9
+short bs i l k d = digits_value_short own (take i bs) 9 d (omega (arith, length-take-le i bs (omega arith)))
 
-pub read_as : (ds : List ℕ) {E : Type 0} (Q : E → Type 0) (r : Result (Bor (List ℕ)) E) (s : Bor (List ℕ)) → MatchResult r (λ s. (s.now ≡ ds) × IsUtf8 ds) (λ e. ¬ (IsUtf8 ds) × Q e) → result_ok r ≡ Some s → s.now ≡ ds
-read_as ds Q (Ok t) s m h = let same : t ≡ s = cc in ap (λ x. x.now) (sym same) ∙ m.0
-read_as ds Q (Err e) s m h = let z : ◌≡◌ {A = ℕ} 0 1 = cc in absurd (omega arith)
+pub digit_more : (bs : List ℕ) (i : ℕ) → i < length bs → 48 ≤ get_or bs i 0 → get_or bs i 0 ≤ 57 → AllDigits 10 (take i bs) → AllDigits 10 (take (i + 1) bs)
+digit_more bs i l a b d = digits_more 10 bs i l d (omega (arith, digit_value_digit (get_or bs i 0) (a, b)))
 
-unparsed : (ds : List ℕ) → ¬ (AllDigits 10 ds × (0 < length ds) × (digits_value 10 ds < 2 ^ 64)) → (b : Bool) → is_numeral ds ≡ b → b ≡ false
-unparsed ds n true e = let t = numeral_tells ds e in absurd (n (t.digits, t.some, omega (arith, digits_value_short own ds 10 t.digits t.few)))
-unparsed ds n false e = refl
+pub number_more : (bs : List ℕ) (i n : ℕ) → i < length bs → 48 ≤ get_or bs i 0 → get_or bs i 0 ≤ 57 → n ≡ digits_value 10 (take i bs) → n * 10 + (get_or bs i 0 - 48) ≡ digits_value 10 (take (i + 1) bs)
+number_more bs i n l a b e = omega (arith, digits_value_more 10 bs i l, digit_value_digit (get_or bs i 0) (a, b), e)
 
--- what `parse` answered, for a field of at most ten bytes with no sign and no zero in front
-pub parsed : {E : Type 0} (ds : List ℕ) (r : Result ℕ E) → OkIff r (AllDigits 10 ds × (0 < length ds) × (digits_value 10 ds < 2 ^ 64)) (digits_value 10 ds) → length ds ≤ 10 → Bare ds → result_ok r ≡ numeral ds
-parsed ds (Ok n) h few bare = ap (λ k. Some k) h.1 ∙ named ds (record { some = h.0.1; few = few; bare = bare; digits = h.0.0 })
-parsed ds (Err e) h few bare = refused ds (unparsed ds h (is_numeral ds) refl)
+-- after the last digit
+pub whole : (P : List ℕ → Type 0) (bs : List ℕ) (i : ℕ) → length bs ≤ i → P (take i bs) → P bs
+whole P bs i l h = subst P (take_all i bs l) h

@@ -43,7 +43,7 @@ parted b xs w ps e = ap (λ l. drop 1 l) (sym (led-pieces b xs) ∙ ap (led b) e
 
 -- a field that writes a number is how the number is written
 numeral-written : (ds : List ℕ) (t : Bool) (n : ℕ) → is_numeral ds ≡ t → cond t (Some (digits_value 10 ds)) None ≡ Some n → ds ≡ decimal n
-numeral-written ds true n h e = let same : digits_value 10 ds ≡ n = cc in written ds (numeral_tells ds h) ∙ ap decimal same
+numeral-written ds true n h e = let same : digits_value 10 ds ≡ n = cc in (written ds (numeral_tells ds h)).0 ∙ ap decimal same
 numeral-written ds false n h e = let z : ◌≡◌ {A = ℕ} 0 1 = cc in absurd (omega arith)
 
 pub numeral_is : (ds : List ℕ) (n : ℕ) → numeral ds ≡ Some n → ds ≡ decimal n

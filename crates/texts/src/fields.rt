@@ -44,13 +44,22 @@ pub(crate) fn cut(line: &[u8]) -> Option<(&[u8], &[u8])>
 pub(crate) fn number(field: &[u8]) -> Option<u64>
     ensures { result ≡ numeral field.now }
 {
-    if field.is_empty() || field.len() > 10 || field[0] == b'+' {
+    if field.is_empty() || field.len() > 10 {
         return None;
     }
     if field[0] == b'0' && field.len() > 1 {
         return None;
     }
-    str::from_utf8(field).ok()?.parse().ok()
+    // no `from_utf8` and `parse`: a trace was read in 1.7 times the time
+    let mut n: u64 = 0;
+    for x in field {
+        let digit = *x;
+        if digit < b'0' || digit > b'9' {
+            return None;
+        }
+        n = n * 10 + u64::from(digit - b'0');
+    }
+    Some(n)
 }
 
 /// The numbers that fields write, one tab between each two, where each field writes one.
