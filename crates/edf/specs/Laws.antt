@@ -48,11 +48,10 @@ first t cs xs v = way (foremost earlier xs) refl
         let le = ahead.0 in
         (omega arith, λ q. (let same : due_of y ≡ due_of z = mine ∙ q ∙ sym late in let r = ahead.1 same in let w = i.2 in omega arith))
 
--- one contract alone is granted
-pub alone : Alone test_of
-alone cs p s d whole none low hs hd le =
+-- one contract alone is granted, in a table of any length
+pub granted_alone : (cs : List (Option Contract)) → ((q : ℕ) → slice_index_or cs q None ≡ None) → (p s d : ℕ) → p < length cs → 1 ≤ s → 1 ≤ d → d ≤ 128 → test_of (slice_set cs p (Some (agreed s d))) ≡ None
+granted_alone cs none p s d within hs hd le =
     let table : List (Option Contract) = slice_set cs p (Some (agreed s d)) in
-    let within : p < length cs = omega arith in
     let fit : exceeds_table table ≡ false = le-ltb 128 (total_of places table) (let a = total_alone places cs p s d none within in let k = ceil_self d s hs in omega arith) in
     let work : nat_le (work_in table 1) 1 ≡ true = le-leb (work_in table 1) 1 (let a = total_alone (put_in 1) cs p s d none within in let k = ceil_self 1 s hs in omega arith) in
     let period : busy_period table ≡ Some 1 = period_one table work in
@@ -60,6 +59,9 @@ alone cs p s d whole none low hs hd le =
     below_false 1 (λ k. ltb (k + 1) (demand_in table (k + 1)))
     (λ k l. le-ltb (k + 1) (demand_in table (k + 1)) (let a = total_alone (due_in (k + 1)) cs p s d none within in let j = jobs_self d s (k + 1) hs hd in omega arith)) in
     ap (λ b. refused_if b TableExceeded (busy_verdict table (busy_period table))) fit ∙ ap (busy_verdict table) period ∙ ap (λ b. refused_if b DemandExceeded None) late
+
+pub alone : Alone test_of
+alone cs p s d whole none low hs hd le = granted_alone cs none p s d (omega arith) hs hd le
 
 -- its own causes
 pub own : (cs : List (Option Contract)) → Own (test_of cs)

@@ -5,8 +5,8 @@ ghost use Rattle.scheduler.specs.Meaning.{fresh, told, after, agreed, used, gran
 ghost use Rattle.scheduler.specs.Tables.{contracts_of};
 ghost use Rattle.backlog.specs.Backlogs.{cells_of};
 ghost use Rattle.backlog.specs.Cells.{holds_in};
-ghost use Rattle.demand.proofs.Keeps.{contracted_of, past_of, in_time_of};
 ghost use Rattle.ordered.specs.States.{means, test_by, judged_by, grant_by, first_by, Tried};
+ghost use Rattle.ordered.specs.Keeps;
 ghost use Rattle.ordered.specs.Keeps.{chosen_of};
 ghost use Rattle.std.proofs.Common.{arith, rules};
 
@@ -61,8 +61,10 @@ impl<D: Discipline> Ordered<D> {
     }
 }
 
-/// Beside what the trait says, each call states what it leaves of the contract table, on which
-/// the test of a grant hangs, and `serve` what its discipline says of the cell that it answers.
+/// Its test is a function of what it means (clause `judged` of `grant`), so whoever knows its
+/// contracts knows its answer to a proposed one. Beside what the trait says, each call states what
+/// it leaves of the contract table, on which the test of a grant hangs, and `serve` what its
+/// discipline says of the cell that it answers.
 impl<D: Discipline> Scheduler for Ordered<D> {
     ghost meaning = { λ x. means x.register x.backlog };
 
@@ -70,13 +72,13 @@ impl<D: Discipline> Scheduler for Ordered<D> {
 
     ghost choice = { λ x. first_by (D.ahead x.discipline) x.backlog };
 
-    ghost timely = { λ x. in_time_of x.register (cells_of x.backlog) x.sound.orderly (D.prompt x.register.slot.0 x.register.contracts (cells_of x.backlog) x.sound) };
+    ghost timely = { λ x. Keeps.timely D.asks D.limit D.keeps D.prompt x.register (cells_of x.backlog) x.sound };
 
-    ghost contracted = { λ x. contracted_of x.register (cells_of x.backlog) x.sound.orderly };
+    ghost contracted = { λ x. Keeps.contracted D.asks D.limit D.keeps x.register (cells_of x.backlog) x.sound };
 
     ghost ranged = { first_of (Prim.search rules, Prim.grind (arith, Self.row.coded.inj)) };
 
-    ghost past = { λ x. past_of x.register (cells_of x.backlog) x.sound.orderly };
+    ghost past = { λ x. Keeps.past D.asks D.limit D.keeps x.register (cells_of x.backlog) x.sound };
 
     ghost chosen = { λ x. chosen_of (D.ahead x.discipline) x.register.slot.0 x.register.contracts (cells_of x.backlog) _ x.sound.orderly refl };
 
