@@ -11,7 +11,7 @@ use crate::fields::{body, ends_line};
 use crate::forms::{PlanEntry, PlanHop, PlanParty};
 use crate::plans::{Draft, Plan};
 use crate::refusals::Refusal;
-use cells::faults::{Cause, Fault, Layer, NO_LINE};
+use cells::faults::{Cause, Layer, NO_LINE};
 use cells::limits::{HOPS, PARTIES};
 use std::alloc::Global;
 
@@ -116,8 +116,7 @@ impl Draft {
         ensures { ToldBy layout_of (in_line InPlan (lines_in (draft_of self) + 1) (plan_end (draft_of self))) result }
     {
         if self.hops.is_empty() || self.parties.is_empty() {
-            let fault = Fault::of_text(Cause::LinePlace, Layer::Plan, self.next_line());
-            return Err(Refusal::Faulty(fault));
+            return Err(Refusal::in_plan(Cause::LinePlace, self.next_line()));
         }
         Ok(Plan { draft: self })
     }
@@ -129,7 +128,7 @@ pub fn read_plan(heap: Global, text: &[u8]) -> Result<Plan, Refusal>
     ensures told { ToldBy layout_of (plan_of text.now) result }
     ensures written { IfOk result (λ p. plan_written (layout_of p) ≡ text.now) }
 {
-    let lines = body(text).ok_or(Fault::of_text(Cause::TextSizeOrEnd, Layer::Plan, NO_LINE))?;
+    let lines = body(text).ok_or(Refusal::in_plan(Cause::TextSizeOrEnd, NO_LINE))?;
     let mut draft = Draft::new(heap);
     for text in lines.split(ends_line) {
         draft.take_line(heap, text)?;

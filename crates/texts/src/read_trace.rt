@@ -15,7 +15,7 @@ use crate::forms::{LABEL_MAX, PARTY_MAX, SLOT_MAX, TraceLine};
 use crate::plans::Plan;
 use crate::refusals::Refusal;
 use crate::traces::{Follow, Trace};
-use cells::faults::{Cause, Fault, Layer, NO_LINE};
+use cells::faults::{Cause, Layer, NO_LINE};
 use cells::times::Slot;
 use std::alloc::{AllocError, Global};
 
@@ -140,7 +140,7 @@ pub fn read_trace(heap: Global, plan: &Plan, text: &[u8]) -> Result<Trace, Refus
     if text.is_empty() {
         return Ok(follow.finish());
     }
-    let lines = body(text).ok_or(Fault::of_text(Cause::TextSizeOrEnd, Layer::Trace, NO_LINE))?;
+    let lines = body(text).ok_or(Refusal::in_trace(Cause::TextSizeOrEnd, NO_LINE))?;
     for text in lines.split(ends_line) {
         follow.take_line(heap, plan, text)?;
     }

@@ -1,6 +1,8 @@
 //! Why a text was not read.
 
 ghost use Rattle.std.specs.Prelude.{◌≡◌};
+ghost use Rattle.cells.specs.Faults.{text_fault};
+ghost use Rattle.cells.specs.declared.faults.Layer.TheVariants.{Plan, Trace};
 ghost use Rattle.texts.specs.Refusals.{refusal_in_line};
 ghost use Rattle.texts.specs.declared.refusals.Refusal.TheVariants.{Faulty, NoMemory};
 
@@ -13,6 +15,22 @@ use std::alloc::{AllocError, AllocFailed};
 pub enum Refusal<F = Fault> {
     Faulty(F),
     NoMemory,
+}
+
+impl Refusal {
+    /// A fault of a plan.
+    pub fn in_plan(cause: Cause, line: u32) -> Refusal
+        ensures { result ≡ Faulty (text_fault cause Plan line) }
+    {
+        Refusal::Faulty(Fault::of_text(cause, Layer::Plan, line))
+    }
+
+    /// A fault of a trace.
+    pub fn in_trace(cause: Cause, line: u32) -> Refusal
+        ensures { result ≡ Faulty (text_fault cause Trace line) }
+    {
+        Refusal::Faulty(Fault::of_text(cause, Layer::Trace, line))
+    }
 }
 
 impl Refusal<Cause> {
